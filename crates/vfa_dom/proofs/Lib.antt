@@ -1,0 +1,4 @@
+pub mod Searches
+pub mod Bests
+pub mod SetSearches
+pub mod ResultSets

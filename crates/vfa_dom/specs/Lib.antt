@@ -1,0 +1,4 @@
+pub mod Search
+pub mod Sets
+pub mod Best
+pub mod Results
