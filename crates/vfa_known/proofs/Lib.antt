@@ -1,0 +1,13 @@
+pub mod Cubes
+pub mod Digits
+pub mod Members
+pub mod Moves
+pub mod Places
+pub mod Amounts
+pub mod Sums
+pub mod Agreements
+pub mod Searching
+pub mod Searched
+pub mod Turned
+pub mod Products
+pub mod Same

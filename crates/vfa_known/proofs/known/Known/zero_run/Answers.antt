@@ -1,0 +1,12 @@
+use Rattle.vfa_known.specs.Known.{masks_of}
+use Rattle.vfa_known.proofs.Products.{ones_run, zero_run_is}
+use Rattle.vfa_known.proofs.known.Known.zero_run.Goals as goal
+
+pub returns-clause-run : goal.returns-clause-run
+returns-clause-run g c = let m = c.args.self.now in
+    zero_run_is g.row.W c.trailing_ones.result (masks_of m)
+    (ones_run g.row.W m.zeros c.trailing_ones.result m.width.most m.cube.zeros_fit c.trailing_ones.ensures)
+
+pub returns-clause-bound : goal.returns-clause-bound
+returns-clause-bound g c = let m = c.args.self.now in
+    (ones_run g.row.W m.zeros c.trailing_ones.result m.width.most m.cube.zeros_fit c.trailing_ones.ensures).within
