@@ -1,0 +1,16 @@
+pub mod Truth
+pub mod Circle
+pub mod SmallestArc
+pub mod SumArcs
+pub mod ArcSets
+pub mod ArcEnds
+pub mod RowArcs
+pub mod RowLaws
+pub mod SignedRowLaws
+pub mod ProductLaws
+pub mod RowSteps
+pub mod RowsWhole
+pub mod Runs
+pub mod CommonArcs
+pub mod Marks
+pub mod SetEnds

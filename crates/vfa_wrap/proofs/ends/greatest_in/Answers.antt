@@ -1,0 +1,11 @@
+use Rattle.std.proofs.Common.{arith}
+use Rattle.vfa_wrap.proofs.ArcEnds.{greatest_whole, greatest_split}
+use Rattle.vfa_wrap.proofs.ends.greatest_in.Goals as goal
+
+pub returns-then-first-last-clause-value : goal.returns-then-first-last-clause-value
+returns-then-first-last-clause-value g c =
+    greatest_whole g.row.W (record { first = c.args.first; last = c.args.last }) c.requires.first_fits c.requires.last_fits (omega arith)
+
+pub returns-clause-value : goal.returns-clause-value
+returns-clause-value g c =
+    greatest_split g.row.W (record { first = c.args.first; last = c.args.last }) c.most.result c.requires.first_fits c.requires.last_fits (omega arith) c.most.ensures

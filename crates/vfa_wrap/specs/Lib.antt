@@ -1,0 +1,9 @@
+pub mod Arc
+pub mod Pieces
+pub mod Rounding
+pub mod Wrapped
+pub mod Places
+pub mod Ends
+pub mod Between
+pub mod RowResults
+pub mod Rows
