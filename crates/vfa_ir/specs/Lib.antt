@@ -1,0 +1,15 @@
+pub mod DefinedNames
+pub mod Grammar
+pub mod Lexemes
+pub mod Names
+pub mod PhisFit
+pub mod Reads
+pub mod Resolution
+pub mod Sentence
+pub mod Shown
+pub mod Spelling
+pub mod TextLines
+pub mod TokenLexemes
+pub mod Tokens
+pub mod Typed
+pub mod Words

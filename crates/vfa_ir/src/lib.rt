@@ -1,0 +1,21 @@
+//! The program that the analyses read: functions of LLVM's integer IR as plain data, and the tokens of its text.
+#![tactic(auto)]
+
+mod functions;
+mod lists;
+mod names;
+mod numbering;
+mod operations;
+mod reasons;
+pub mod syntax;
+#[cfg(test)]
+mod tests;
+mod tokens;
+
+pub use functions::{Block, Function, Inst, Lines, Param, Phi, Term, Value};
+pub use lists::{Few, Items};
+pub use names::Name;
+pub use numbering::{Local, locals, shown_block, shown_value};
+pub use operations::{Bin, BlockId, Cast, Flags, Fun1, Fun2, Op, Operand, Over, Pred, Ty, ValueId};
+pub use reasons::{Kind, Outside};
+pub use tokens::{Token, TokenKind};
