@@ -1,0 +1,150 @@
+//! Classes of bytes, and how far they reach.
+
+ghost use Rattle.std.specs.Prelude.{◌≡◌, ◌<◌, ◌≤◌, ◌^◌, ◌==◌, length, slice_index, not, ◌||◌};
+ghost use Rattle.std.specs.List.{list_all, prefix_len};
+ghost use Rattle.vfa_ir.specs.Tokens as spec;
+
+#[tactic(auto, unfolding(vfa_ir::specs::Tokens::is_blank))]
+pub(crate) fn is_blank(b: u8) -> bool
+    ensures { result ≡ spec.is_blank b }
+{
+    b == b' ' || b == b'\t' || b == b'\r' || b == b'\n'
+}
+
+#[tactic(auto, unfolding(vfa_ir::specs::Tokens::is_digit))]
+pub(crate) fn is_digit(b: u8) -> bool
+    ensures { result ≡ spec.is_digit b }
+{
+    b'0' <= b && b <= b'9'
+}
+
+#[tactic(auto, unfolding(vfa_ir::specs::Tokens::is_run_byte))]
+pub(crate) fn is_run_byte(b: u8) -> bool
+    ensures { result ≡ spec.is_run_byte b }
+{
+    is_letter(b) || is_digit(b) || b == b'-' || b == b'$' || b == b'.' || b == b'_'
+}
+
+#[tactic(auto, unfolding(vfa_ir::specs::Tokens::is_letter))]
+fn is_letter(b: u8) -> bool
+    ensures { result ≡ spec.is_letter b }
+{
+    (b'A' <= b && b <= b'Z') || (b'a' <= b && b <= b'z')
+}
+
+#[tactic(auto, unfolding(vfa_ir::specs::Tokens::is_mark))]
+pub(crate) fn is_mark(b: u8) -> bool
+    ensures { result ≡ spec.is_mark b }
+{
+    is_bracket(b)
+        || b == b','
+        || b == b'='
+        || b == b'*'
+        || b == b'<'
+        || b == b'>'
+        || b == b':'
+        || b == b'!'
+        || b == b'|'
+}
+
+#[tactic(auto, unfolding(vfa_ir::specs::Tokens::is_bracket))]
+fn is_bracket(b: u8) -> bool
+    ensures { result ≡ spec.is_bracket b }
+{
+    b == b'(' || b == b')' || b == b'[' || b == b']' || b == b'{' || b == b'}'
+}
+
+/// The length of the longest run at the front.
+pub(crate) fn run_length(bytes: &[u8]) -> usize
+    ensures { result ≡ spec.run_len bytes.now }
+{
+    bytes.iter().take_while(|b| is_run_byte(**b)).count()
+}
+
+/// How many digits stand at the front.
+pub(crate) fn digits(bytes: &[u8]) -> usize
+    ensures { result ≡ prefix_len spec.is_digit bytes.now }
+{
+    bytes.iter().take_while(|b| is_digit(**b)).count()
+}
+
+/// How many bytes stand before the end of the line.
+pub(crate) fn line_length(bytes: &[u8]) -> usize
+    ensures { result ≡ spec.line_len bytes.now }
+{
+    bytes.iter().take_while(|b| **b != b'\n').count()
+}
+
+/// How many bytes a string takes behind its opening quote; None where no quote closes it.
+pub(crate) fn quoted_length(bytes: &[u8]) -> Option<usize>
+    ensures { result ≡ spec.quoted_len bytes.now }
+{
+    let inner = before_quote(bytes);
+    if inner < bytes.len() {
+        Some(inner + 1)
+    } else {
+        None
+    }
+}
+
+fn before_quote(bytes: &[u8]) -> usize
+    ensures { result ≡ prefix_len (λ b. not (b == 34)) bytes.now }
+{
+    bytes.iter().take_while(|b| **b != b'"').count()
+}
+
+/// The length of the run or string at the front; 0 where there is neither.
+pub(crate) fn name_length(bytes: &[u8]) -> usize
+    ensures { result ≡ spec.name_len bytes.now }
+{
+    match bytes {
+        [b'"', inside @ ..] => match quoted_length(inside) {
+            Some(n) => n + 1,
+            None => 0,
+        },
+        _ => run_length(bytes),
+    }
+}
+
+/// Whether the first byte and those that follow it are digits, or `-` and digits.
+pub(crate) fn is_number(first: u8, more: &[u8]) -> bool
+    ensures { result ≡ spec.is_number first more.now }
+{
+    if more.is_empty() {
+        return is_digit(first);
+    }
+    begins_number(first) && all_digits(more)
+}
+
+fn begins_number(b: u8) -> bool
+    ensures { result ≡ (spec.is_digit b || b == 45) }
+{
+    is_digit(b) || b == b'-'
+}
+
+fn all_digits(bytes: &[u8]) -> bool
+    ensures { result ≡ list_all spec.is_digit bytes.now }
+{
+    bytes.iter().all(|b| is_digit(*b))
+}
+
+/// How many lines end at the byte: one at a line feed, and else none.
+pub(crate) fn line_feed(b: u8) -> u32
+    ensures count { result ≡ spec.line_feed b }
+    ensures bound { result ≤ 1 }
+{
+    if b == b'\n' { 1 } else { 0 }
+}
+
+/// How many lines end in the bytes.
+pub(crate) fn line_feeds(bytes: &[u8]) -> u32
+    requires { length bytes.now < 2 ^ 32 }
+    ensures count { result ≡ spec.line_feeds bytes.now }
+    ensures bound { result ≤ length bytes.now }
+{
+    let mut count: u32 = 0;
+    for b in bytes {
+        count += line_feed(*b);
+    }
+    count
+}

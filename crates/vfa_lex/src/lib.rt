@@ -1,0 +1,10 @@
+//! The tokens of a module's text: runs, strings, names behind a sigil, labels, numbers, words and marks.
+#![tactic(auto)]
+
+mod bytes;
+mod pieces;
+mod reading;
+#[cfg(test)]
+mod tests;
+
+pub use reading::{line_behind, token_at, tokens};
