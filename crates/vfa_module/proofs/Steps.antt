@@ -1,0 +1,338 @@
+-- Steps of the loops over a define's tokens and over the lines of a text.
+use Rattle.std.proofs.Common.{inl, inr, ◌≡◌, ℕ, zero, suc, ◌+◌, ◌-◌, ◌<◌, ◌≤◌, ◌==◌, ◌||◌, Bool, true, false, List, [], ◌∷◌, ◌++◌, append_assoc, Result, Ok, Err, nat_lt, not, cond, length, take, drop, get_or, Some, None, refl, sym, ap, add-one, ◌∙◌, arith, drop-cons, length-drop}
+use Rattle.std.proofs.lemmas.Bool.{cases_order}
+use Rattle.std.proofs.lemmas.List.{drop-drop, get_or-drop}
+use Rattle.std.proofs.lemmas.List.Sums.{prefix_len_passes}
+use Rattle.vfa_ir.specs.declared.tokens.Token.{Token}
+use Rattle.std.specs.List.{AllByRecursion, position_or_len, prefix_len}
+use Rattle.vfa_ir.proofs.Reading.{feeds_range}
+use Rattle.vfa_ir.specs.Tokens.{line_feed, line_feeds}
+use Rattle.vfa_module.specs.Split as spec
+use Rattle.vfa_module.specs.declared.items.Item.{Item}
+use Rattle.vfa_module.specs.declared.items.SplitFault.{SplitFault}
+
+pub header_step :
+    (text : List ℕ) (named : Bool) (parens : ℕ) (ts rest : List Token) (t : Token) → ts ≡ t ∷ rest →
+    spec.opens_body named parens (spec.front_byte text t) ≡ false →
+    spec.closing_of_define text named parens ts ≡
+    spec.closing_of_define text (named || spec.is_global t.kind) (spec.parens_behind parens (spec.front_byte text t)) rest
+header_step text named parens ts rest t e h = rw (e, h) refl
+
+pub header_end :
+    (text : List ℕ) (named : Bool) (parens : ℕ) (ts rest : List Token) (t : Token) → ts ≡ t ∷ rest →
+    spec.opens_body named parens (spec.front_byte text t) ≡ true →
+    spec.closing_of_define text named parens ts ≡ spec.closing_of_body text 0 rest
+header_end text named parens ts rest t e h = rw (e, h) refl
+
+pub body_step :
+    (text : List ℕ) (braces : ℕ) (ts rest : List Token) (t : Token) → ts ≡ t ∷ rest →
+    spec.closes_body braces (spec.front_byte text t) ≡ false →
+    spec.closing_of_body text braces ts ≡
+    spec.closing_of_body text (spec.braces_behind braces (spec.front_byte text t)) rest
+body_step text braces ts rest t e h = rw (e, h) refl
+
+pub body_end :
+    (text : List ℕ) (braces : ℕ) (ts rest : List Token) (t : Token) → ts ≡ t ∷ rest →
+    spec.closes_body braces (spec.front_byte text t) ≡ true → spec.closing_of_body text braces ts ≡ Some t
+body_end text braces ts rest t e h = rw (e, h) refl
+
+-- the bytes of a line or a define are passed over
+defines-skip :
+    (text : List ℕ) (skip place line : ℕ) (left : List ℕ) →
+    spec.defines_behind text skip place line left ≡ spec.defines_behind text 0 (place + skip) line (drop skip left)
+defines-skip text zero place line [] = refl
+defines-skip text (suc skip) place line [] = refl
+defines-skip text zero place line (b ∷ left) = let at : place + 0 ≡ place = omega arith in rw at refl
+defines-skip text (suc skip) place line (b ∷ left) =
+    let at : place + 1 + skip ≡ place + suc skip = omega arith in
+    defines-skip text skip (place + 1) line left ∙ rw at refl
+
+defines-next :
+    (text : List ℕ) (at next line : ℕ) → at < next →
+    spec.defines_behind text (next - (at + 1)) (at + 1) line (drop (at + 1) text) ≡ spec.defines_from text next line
+defines-next text at next line later =
+    let on : at + 1 + (next - (at + 1)) ≡ next = omega arith in
+    defines-skip text (next - (at + 1)) (at + 1) line (drop (at + 1) text) ∙ rw (drop-drop, on) refl
+
+front : (text : List ℕ) (at : ℕ) → at < length text → drop at text ≡ get_or text at 0 ∷ drop (at + 1) text
+front text at inside = rw add-one (drop-cons text at 0 inside)
+
+pub line_passed :
+    (text : List ℕ) (at line : ℕ) → at < length text → at < spec.next_line text at →
+    spec.define_of_line text at ≡ None →
+    spec.defines_from text at line ≡ spec.defines_from text (spec.next_line text at) (line + 1)
+line_passed text at line inside later none =
+    ap (spec.defines_behind text 0 at line) (front text at inside)
+    ∙ (rw (none, spec.defines_behind) refl ∙ defines-next text at (spec.next_line text at) (line + 1) later)
+
+at_define :
+    (text : List ℕ) (at line start : ℕ) → at < length text → spec.define_of_line text at ≡ Some start →
+    spec.defines_from text at line ≡
+    spec.define_then text start line (spec.closing_brace text start line)
+    (λ t. spec.defines_behind text (spec.next_line text t.end - (at + 1)) (at + 1) (t.line + 1) (drop (at + 1) text))
+at_define text at line start inside some = ap (spec.defines_behind text 0 at line) (front text at inside) ∙ rw (some, spec.defines_behind) refl
+
+pub define_unclosed :
+    (text : List ℕ) (at line start : ℕ) → at < length text → spec.define_of_line text at ≡ Some start →
+    spec.closing_brace text start line ≡ None → spec.defines_from text at line ≡ Err (SplitFault.Unclosed start)
+define_unclosed text at line start inside some none = at_define text at line start inside some ∙ rw none refl
+
+pub define_bad :
+    (text : List ℕ) (at line start : ℕ) (t : Token) → at < length text → spec.define_of_line text at ≡ Some start →
+    spec.closing_brace text start line ≡ Some t → spec.is_clear (drop t.end text) ≡ false →
+    spec.defines_from text at line ≡ Err (SplitFault.BadLine t.line)
+define_bad text at line start t inside some closed bad = at_define text at line start inside some ∙ rw (closed, bad) refl
+
+pub define_closed :
+    (text : List ℕ) (at line start : ℕ) (t : Token) → at < length text → spec.define_of_line text at ≡ Some start →
+    spec.closing_brace text start line ≡ Some t → spec.is_clear (drop t.end text) ≡ true →
+    at < spec.next_line text t.end →
+    spec.defines_from text at line ≡
+    spec.with_first (record { start = start; end = t.end; line = line })
+    (spec.defines_from text (spec.next_line text t.end) (t.line + 1))
+define_closed text at line start t inside some closed clear later =
+    at_define text at line start inside some
+    ∙ rw (closed, clear)
+    (ap (spec.with_first (record { start = start; end = t.end; line = line }))
+    (defines-next text at (spec.next_line text t.end) (t.line + 1) later))
+
+-- the items so far, and those of the defines that are left
+abbrev pub items_then : List Item → ℕ → ℕ → Result (List spec.Extent) SplitFault → Result (List Item) SplitFault
+items_then items copied end (Ok defines) = Ok (items ++ spec.items_between copied end defines)
+items_then items copied end (Err fault) = Err fault
+
+pub items_then-first :
+    (items : List Item) (copied end : ℕ) (d : spec.Extent) (left : Result (List spec.Extent) SplitFault) →
+    items_then items copied end (spec.with_first d left) ≡
+    items_then ((items ++ spec.lines_between copied d.start) ++ Item.Define d.start d.end d.line ∷ []) d.end end left
+items_then-first items copied end d (Ok defines) = ap Ok (simp append_assoc)
+items_then-first items copied end d (Err fault) = refl
+
+pub Cover-append : (from at to : ℕ) (xs ys : List Item) → spec.Cover from at xs → spec.Cover at to ys → spec.Cover from to (xs ++ ys)
+Cover-append from at to [] ys c d = rw c d
+Cover-append from at to (x ∷ xs) ys c d = (c.0, c.1, Cover-append _ at to xs ys c.2 d)
+
+pub Cover-lines : (from to : ℕ) → from ≤ to → spec.Cover from to (spec.lines_between from to)
+Cover-lines from to order = by_test (nat_lt from to) refl
+  where
+    by_test :
+        (t : Bool) → nat_lt from to ≡ t → spec.Cover from to (cond t (Item.Lines from to ∷ []) [])
+    by_test true h = (refl, grind arith, refl)
+    by_test false h = grind arith
+
+pub all-append : (P : Item → Type 0) (xs ys : List Item) → AllByRecursion P xs → AllByRecursion P ys → AllByRecursion P (xs ++ ys)
+all-append P [] ys c d = d
+all-append P (x ∷ xs) ys c d = (c.0, all-append P xs ys c.1 d)
+
+pub lines_are_parts :
+    (text : List ℕ) (from to : ℕ) → spec.HasNoDefine text from to →
+    AllByRecursion (spec.IsPart text) (spec.lines_between from to)
+lines_are_parts text from to none = by_test (nat_lt from to)
+  where
+    by_test : (t : Bool) → AllByRecursion (spec.IsPart text) (cond t (Item.Lines from to ∷ []) [])
+    by_test true = (none, tt)
+    by_test false = tt
+
+pub closes_byte : (braces b : ℕ) → spec.closes_body braces b ≡ true → b ≡ 125
+unfolding spec.closes_body
+closes_byte braces b h = grind arith
+
+-- the word of a define: where it stands, and that it is one
+pub record WordFound (text : List ℕ) (at start : ℕ) : Type 0 where
+  pub place : start ≡ at + spec.indent (drop at text)
+  pub word : spec.begins_define (drop start text) ≡ true
+
+pub word_found : (text : List ℕ) (at start : ℕ) → spec.define_of_line text at ≡ Some start → WordFound text at start
+word_found text at start some = by_test (spec.begins_define (drop (at + spec.indent (drop at text)) text)) refl some
+  where
+    by_test :
+        (t : Bool) → spec.begins_define (drop (at + spec.indent (drop at text)) text) ≡ t →
+        cond t (Some (at + spec.indent (drop at text))) None ≡ Some start → WordFound text at start
+    by_test true h some =
+        let same : at + spec.indent (drop at text) ≡ start = (cc) in
+        record { place = sym same; word = (rw same at h) }
+    by_test false h some = absurd (cc)
+
+-- an indent has no line feed
+indent_cons :
+    (b : ℕ) (rest : List ℕ) (t : Bool) → (b == 32 || b == 9) ≡ t → line_feeds (take (spec.indent rest) rest) ≡ 0 →
+    line_feeds (take (cond t (1 + spec.indent rest) 0) (b ∷ rest)) ≡ 0
+indent_cons b rest true h left =
+    let one : 1 + spec.indent rest ≡ suc (spec.indent rest) = omega arith in
+    let none : line_feed b ≡ 0 = grind arith in
+    rw one (omega arith)
+indent_cons b rest false h left = refl
+
+indent_feeds : (bs : List ℕ) → line_feeds (take (spec.indent bs) bs) ≡ 0
+indent_feeds [] = refl
+indent_feeds (b ∷ rest) = indent_cons b rest (b == 32 || b == 9) refl (indent_feeds rest)
+
+pub word_on_line :
+    (text : List ℕ) (at start : ℕ) → WordFound text at start →
+    line_feeds (take start text) ≡ line_feeds (take at text)
+word_on_line text at start w =
+    let place : start ≡ at + spec.indent (drop at text) = w.place in
+    let long : start - at ≡ spec.indent (drop at text) = omega arith in
+    let feeds : line_feeds (take start text) ≡ line_feeds (take at text) + line_feeds (take (start - at) (drop at text)) =
+    feeds_range text at start (omega arith) in
+    let none : line_feeds (take (start - at) (drop at text)) ≡ 0 = rw long (indent_feeds (drop at text)) in
+    omega arith
+
+-- a line that is not the last one has one line feed
+line_cons :
+    (b : ℕ) (rest : List ℕ) (t : Bool) → (b == 10) ≡ t →
+    cond (not t) (1 + position_or_len (λ c. c == 10) rest) 0 < suc (length rest) →
+    (position_or_len (λ c. c == 10) rest < length rest →
+    line_feeds (take (position_or_len (λ c. c == 10) rest + 1) rest) ≡ 1) →
+    line_feeds (take (cond (not t) (1 + position_or_len (λ c. c == 10) rest) 0 + 1) (b ∷ rest)) ≡ 1
+line_cons b rest true h inside left =
+    let one : line_feed b ≡ 1 = (rw h refl) in omega arith
+line_cons b rest false h inside left =
+    let n = position_or_len (λ c. c == 10) rest in
+    let more : 1 + n + 1 ≡ suc (n + 1) = omega arith in
+    let none : line_feed b ≡ 0 = (rw h refl) in
+    let rest_feeds : line_feeds (take (n + 1) rest) ≡ 1 = left (omega arith) in
+    rw more (omega arith)
+
+line_has_feed :
+    (bs : List ℕ) → position_or_len (λ c. c == 10) bs < length bs →
+    line_feeds (take (position_or_len (λ c. c == 10) bs + 1) bs) ≡ 1
+line_has_feed [] inside = absurd (omega arith)
+line_has_feed (b ∷ rest) inside = line_cons b rest (b == 10) refl inside (line_has_feed rest)
+
+next_feeds_from :
+    (bs : List ℕ) → spec.line_bytes bs < length bs → line_feeds (take (spec.line_bytes bs) bs) ≡ 1
+next_feeds_from bs more = by_test (nat_lt (position_or_len (λ c. c == 10) bs) (length bs)) refl more
+  where
+    by_test :
+        (t : Bool) → nat_lt (position_or_len (λ c. c == 10) bs) (length bs) ≡ t →
+        (elim (cond t (Some (position_or_len (λ c. c == 10) bs)) None) [ None ↦ length bs | Some n ↦ n + 1 ]) < length bs →
+        line_feeds (take (elim (cond t (Some (position_or_len (λ c. c == 10) bs)) None) [ None ↦ length bs | Some n ↦ n + 1 ]) bs) ≡ 1
+    by_test true h more = line_has_feed bs (grind arith)
+    by_test false h more = absurd (omega arith)
+
+pub next_feeds :
+    (text : List ℕ) (at : ℕ) → at ≤ length text → spec.next_line text at < length text →
+    line_feeds (take (spec.next_line text at) text) ≡ line_feeds (take at text) + 1
+next_feeds text at inside more =
+    let n = spec.line_bytes (drop at text) in
+    let long : length (drop at text) ≡ length text - at = length-drop at text in
+    let here : at + n - at ≡ n = omega arith in
+    let one : line_feeds (take n (drop at text)) ≡ 1 = next_feeds_from (drop at text) (omega arith) in
+    feeds_range text at (at + n) (omega arith) ∙ rw (here, one) refl
+
+-- a brace that is found from a place on to which reading came is found from where reading began
+pub brace_sooner :
+    (text : List ℕ) (from line at on : ℕ) (t : Token) → from ≤ at →
+    on + line_feeds (take from text) ≡ line + line_feeds (take at text) → spec.IsBrace text at on t →
+    spec.IsBrace text from line t
+brace_sooner text from line at on t later counted b =
+    let behind : at ≤ t.start = b.behind in
+    let lines : t.line + line_feeds (take at text) ≡ on + line_feeds (take t.start text) = b.lines in
+    record { behind = omega arith; byte = b.byte; one = b.one; within = b.within; lines = omega arith }
+
+-- the brace itself ends no line
+pub brace_feeds :
+    (text : List ℕ) (from line : ℕ) (t : Token) → spec.IsBrace text from line t →
+    line_feeds (take t.end text) ≡ line_feeds (take t.start text)
+brace_feeds text from line t b =
+    let one : t.end - t.start ≡ 1 = (let end = b.one in omega arith) in
+    let inside : t.start < length text = (let end = b.one in let within = b.within in omega arith) in
+    let none : line_feeds (take (t.end - t.start) (drop t.start text)) ≡ 0 =
+    rw (one, front text t.start inside, b.byte) refl in
+    let feeds = feeds_range text t.start t.end (let end = b.one in omega arith) in
+    omega arith
+
+-- the bytes of a line, but for the last one, are no line feeds
+no_feed_inside : (bs : List ℕ) (k : ℕ) → k + 1 < spec.line_bytes bs → k < prefix_len (λ c. not (c == 10)) bs
+no_feed_inside bs k inside = by_test (nat_lt (position_or_len (λ c. c == 10) bs) (length bs)) refl inside
+  where
+    by_test :
+        (t : Bool) → nat_lt (position_or_len (λ c. c == 10) bs) (length bs) ≡ t →
+        k + 1 < (elim (cond t (Some (position_or_len (λ c. c == 10) bs)) None) [ None ↦ length bs | Some n ↦ n + 1 ]) →
+        k < prefix_len (λ c. not (c == 10)) bs
+    by_test true h inside = omega arith
+    by_test false h inside = grind arith
+
+is_no_feed : (b : ℕ) → not (b == 10) ≡ true → b ≡ 10 → ⊥
+is_no_feed b h e = grind arith
+
+is_no_feed_of_indent : (b : ℕ) → (b == 32 || b == 9) ≡ true → b ≡ 10 → ⊥
+is_no_feed_of_indent b h e = grind arith
+
+pub no_line_inside :
+    (text : List ℕ) (at q : ℕ) → at < q → q < spec.next_line text at → get_or text (q - 1) 0 ≡ 10 → ⊥
+no_line_inside text at q later inside feed =
+    let k : ℕ = q - 1 - at in
+    let here : at + (q - 1 - at) ≡ q - 1 = omega arith in
+    let short : q - 1 - at < prefix_len (λ c. not (c == 10)) (drop at text) = no_feed_inside (drop at text) (q - 1 - at) (omega arith) in
+    let passes = prefix_len_passes (λ c. not (c == 10)) (drop at text) (q - 1 - at) 0 short in
+    is_no_feed (get_or text (q - 1) 0) (rw (get_or-drop, here) at passes) feed
+
+no_line_in_indent :
+    (text : List ℕ) (at start q : ℕ) → WordFound text at start → at < q → q < start → get_or text (q - 1) 0 ≡ 10 → ⊥
+no_line_in_indent text at start q w later inside feed =
+    let place : start ≡ at + spec.indent (drop at text) = w.place in
+    let here : at + (q - 1 - at) ≡ q - 1 = omega arith in
+    let passes = prefix_len_passes (λ b. b == 32 || b == 9) (drop at text) (q - 1 - at) 0 (omega arith) in
+    is_no_feed_of_indent (get_or text (q - 1) 0) (rw (get_or-drop, here) at passes) feed
+
+-- so far no line begins a define behind the last one
+abbrev pub NoDefine : List ℕ → ℕ → ℕ → Type 0
+NoDefine text from to =
+    (q : ℕ) → from ≤ q → q < to → spec.BeginsLine text q → spec.define_of_line text q ≡ None
+
+pub none_passed :
+    (text : List ℕ) (from at : ℕ) → NoDefine text from at → spec.define_of_line text at ≡ None →
+    NoDefine text from (spec.next_line text at)
+none_passed text from at before here q behind inside begins =
+    elim (cases_order q at) [
+      | inl same ↦ rw same here
+      | inr (inl sooner) ↦ before q behind sooner begins
+      | inr (inr later) ↦ absurd (later_fails later)
+    ]
+  where
+    later_fails : at < q → ⊥
+    later_fails later =
+        elim begins [ inl zero_at ↦ omega arith | inr feed ↦ no_line_inside text at q later inside feed ]
+
+pub none_before_word :
+    (text : List ℕ) (from at start : ℕ) → NoDefine text from at → spec.define_of_line text at ≡ Some start →
+    spec.HasNoDefine text from start
+none_before_word text from at start before here q behind inside begins =
+    elim (cases_order q at) [
+      | inl same ↦ inr (rw same here)
+      | inr (inl sooner) ↦ inl (before q behind sooner begins)
+      | inr (inr later) ↦ absurd (later_fails later)
+    ]
+  where
+    later_fails : at < q → ⊥
+    later_fails later =
+        elim begins [
+          | inl zero_at ↦ omega arith
+          | inr feed ↦ no_line_in_indent text at start q (word_found text at start here) later inside feed
+        ]
+
+is_no_brace : (b : ℕ) → b ≡ 125 → b ≡ 10 → ⊥
+is_no_brace b h e = omega arith
+
+pub none_behind_brace :
+    (text : List ℕ) (from line : ℕ) (t : Token) → spec.IsBrace text from line t →
+    NoDefine text t.end (spec.next_line text t.end)
+none_behind_brace text from line t b q behind inside begins = absurd (fails begins)
+  where
+    brace_at : q ≡ t.end → q - 1 ≡ t.start
+    brace_at same = let one = b.one in omega arith
+
+    fails : spec.BeginsLine text q → ⊥
+    fails (inl zero_at) = let one = b.one in omega arith
+    fails (inr feed) =
+        elim (cases_order q t.end) [
+          | inl same ↦ is_no_brace (get_or text (q - 1) 0) (rw (brace_at same) b.byte) feed
+          | inr (inl sooner) ↦ omega arith
+          | inr (inr later) ↦ no_line_inside text t.end q later inside feed
+        ]
+
+pub none_to_end :
+    (text : List ℕ) (from at to : ℕ) → to ≤ at → NoDefine text from at → spec.HasNoDefine text from to
+none_to_end text from at to ended before q behind inside begins = inl (before q behind (omega arith) begins)

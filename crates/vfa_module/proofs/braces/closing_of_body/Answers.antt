@@ -1,0 +1,44 @@
+use Rattle.std.proofs.Common.{◌∙◌, refl, sym, arith}
+use Rattle.vfa_ir.proofs.Reading.{behind_feeds, behind_line, brace_end, placed_feeds, placed_line}
+use Rattle.vfa_module.proofs.Steps.{body_step, closes_byte}
+use Rattle.vfa_module.proofs.braces.closing_of_body.Goals as goal
+
+pub line_behind-line-requires-clause-lines : goal.line_behind-line-requires-clause-lines
+line_behind-line-requires-clause-lines c =
+    let on = placed_line _ _ _ _ c.in-Some.ensures.placed in let placed = c.in-Some.ensures.placed in omega arith
+
+pub returns-then-closes_body-clause-bound : goal.returns-then-closes_body-clause-bound
+returns-then-closes_body-clause-bound c =
+    let on = placed_line _ _ _ _ c.in-Some.ensures.placed in let placed = c.in-Some.ensures.placed in omega arith
+
+pub returns-then-closes_body-clause-found : goal.returns-then-closes_body-clause-found
+returns-then-closes_body-clause-found c =
+    let placed = c.in-Some.ensures.placed in
+    let byte = closes_byte _ _ (sym c.if-closes_body.ensures) in
+    let feeds = placed_feeds _ _ _ _ placed in
+    record {
+      behind = omega arith;
+      byte = byte;
+      one = brace_end _ _ _ _ placed byte;
+      within = placed.within;
+      lines = omega arith;
+    }
+
+pub loop-token-preserved : goal.loop-token-preserved
+loop-token-preserved c =
+    let placed = c.in-Some.ensures.placed in
+    let on = behind_line _ _ _ _ placed in
+    let line = c.line_behind-line.ensures in
+    let feeds = behind_feeds _ _ _ _ placed in
+    let bound = c.braces_behind-braces.ensures.bound in
+    let count = c.braces_behind-braces.ensures.count in
+    record {
+      behind = omega arith;
+      within = placed.within;
+      lines = omega arith;
+      braces = omega arith;
+      counted = omega arith;
+      same =
+          c.loop-token.invariant.same
+          ∙ (body_step _ _ _ _ _ c.in-Some.ensures.rest (sym c.if-closes_body.ensures) ∙ rw (line, count) refl);
+    }

@@ -1,0 +1,99 @@
+//! Lines, and the word that begins a define.
+
+ghost use Rattle.std.specs.Prelude.{◌≡◌, ◌<◌, ◌≤◌, ◌+◌, ◌==◌, length, position, IfSome};
+ghost use Rattle.vfa_ir.specs.Tokens as tokens;
+ghost use Rattle.vfa_module.specs.Split as spec;
+
+/// How many spaces and tabs stand at the front.
+fn indent(bytes: &[u8]) -> usize
+    ensures count { result ≡ spec.indent bytes.now }
+    ensures within { result ≤ length bytes.now }
+{
+    bytes
+        .iter()
+        .take_while(|b| **b == b' ' || **b == b'\t')
+        .count()
+}
+
+/// Whether the bytes begin with the word `define` and white space.
+#[tactic(auto, unfolding(crate::specs::Split::begins_define))]
+fn begins_define(bytes: &[u8]) -> bool
+    ensures { result ≡ spec.begins_define bytes.now }
+{
+    bytes.starts_with(b"define") && is_blank_at(bytes, 6)
+}
+
+#[tactic(auto, unfolding(vfa_ir::specs::Tokens::is_blank))]
+fn is_blank_at(bytes: &[u8], at: usize) -> bool
+    ensures { result ≡ spec.has_blank at bytes.now }
+{
+    match bytes.get(at) {
+        Some(b) => is_blank(*b),
+        None => false,
+    }
+}
+
+#[tactic(auto, unfolding(vfa_ir::specs::Tokens::is_blank))]
+fn is_blank(b: u8) -> bool
+    ensures { result ≡ tokens.is_blank b }
+{
+    b == b' ' || b == b'\t' || b == b'\r' || b == b'\n'
+}
+
+/// The offset of the word `define` where the line that begins at this offset begins one.
+pub(crate) fn define_of_line(bytes: &[u8], at: usize) -> Option<usize>
+    requires { at ≤ length bytes.now }
+    ensures define { result ≡ spec.define_of_line bytes.now at }
+    ensures within { IfSome result (λ start. (at ≤ start) × (start ≤ length bytes.now)) }
+{
+    let start = at + indent(&bytes[at..]);
+    if begins_define(&bytes[start..]) {
+        Some(start)
+    } else {
+        None
+    }
+}
+
+/// Where the line behind the one of this offset begins.
+pub(crate) fn next_line(bytes: &[u8], at: usize) -> usize
+    requires { at ≤ length bytes.now }
+    ensures next { result ≡ spec.next_line bytes.now at }
+    ensures within { result ≤ length bytes.now }
+    ensures behind { at ≤ result }
+    ensures later { at < length bytes.now → at < result }
+{
+    at + line_bytes(&bytes[at..])
+}
+
+fn line_bytes(bytes: &[u8]) -> usize
+    ensures bytes { result ≡ spec.line_bytes bytes.now }
+    ensures within { result ≤ length bytes.now }
+    ensures some { 0 < length bytes.now → 0 < result }
+{
+    match line_feed(bytes) {
+        Some(n) => n + 1,
+        None => bytes.len(),
+    }
+}
+
+fn line_feed(bytes: &[u8]) -> Option<usize>
+    ensures place { result ≡ position (λ b. b == 10) bytes.now }
+    ensures within { IfSome result (λ n. n < length bytes.now) }
+{
+    bytes.iter().position(|b| *b == b'\n')
+}
+
+/// Whether white space or a comment is all up to the end of the line.
+pub(crate) fn is_clear(bytes: &[u8]) -> bool
+    ensures { result ≡ spec.is_clear bytes.now }
+{
+    for b in bytes {
+        if *b == b'\n' || *b == b';' {
+            return true;
+        }
+        if !is_blank(*b) {
+            return false;
+        }
+    }
+    true
+}
