@@ -1,0 +1,252 @@
+-- Reading an operation or a terminator, behind its word, is exact.
+use Rattle.std.proofs.Common.{◌≡◌, ℕ, zero, suc, ◌≤◌, Bool, true, ◌==◌, cond, List, [], ◌∷◌, ◌++◌, drop, Option, Some, None, ◌⊎◌, ⊎_elim, decimal, bytes_eq, codes, refl, sym, ap, ◌∙◌, subst, arith, eqb-true}
+use Rattle.std.proofs.lemmas.Bool.Decides.{nat_tests}
+use Rattle.std.proofs.lemmas.Fmt.{decimal_digit}
+use Rattle.vfa_ir.specs.declared.operations.Cast.{Cast}
+use Rattle.vfa_ir.specs.declared.operations.Pred.{Pred}
+use Rattle.vfa_ir.specs.declared.syntax.Operation.{Operation}
+use Rattle.vfa_ir.specs.declared.syntax.Transfer.{Transfer}
+use Rattle.vfa_ir.specs.declared.syntax.Written.{Written}
+use Rattle.vfa_ir.specs.Lexemes.{Lexeme, local, number, word, mark}
+use Rattle.vfa_ir.specs.Grammar.{IsWidth, FitsValue}
+use Rattle.vfa_ir.specs.Spelling as spell
+use Rattle.vfa_ir.specs.Words.{pred_word}
+use Rattle.vfa_read.specs.Productions.{target, operands, typed_operands, compare, compare_of, select, select_of, convert, convert_of, freeze, freeze_of, pair_type, extract, extract_of, returned, return_of, condition, condition_of, branch, is_word, is_group}
+use Rattle.vfa_read.specs.Readers.{Reader, one, after, made, skip, ended, next_passes}
+use Rattle.vfa_read.specs.Tables.{the_mark, the_word, the_type, local_name, type_of, value_of, word_in, preds, part_index}
+use Rattle.vfa_read.proofs.Exact.{Exact, Made, anything, may_anything, one_exact, after_exact, made_exact, choose_exact, skip_exact, ended_exact}
+use Rattle.vfa_read.proofs.LeafReaders.{some_is, first_or, mark_exact, word_exact, local_exact, type_exact, type_is, value_exact, pred_exact}
+use Rattle.vfa_read.proofs.Many.{follow_many}
+use Rattle.vfa_read.proofs.Words.{tested, is_width, same_text}
+
+abbrev pub one_wide : IsWidth 1
+one_wide = record { least = omega arith; most = omega arith }
+
+-- a type that is known
+
+the_type_is : (w : ℕ) (l : Lexeme) (x : Unit {0}) → the_type w l ≡ Some x → l ≡ spell.type w
+the_type_is w l x e = go (type_of l) refl e
+  where
+    go : (o : Option ℕ) → type_of l ≡ o → elim o [ None ↦ None | Some v ↦ cond (v == w) (Some tt) None ] ≡ Some x → l ≡ spell.type w
+    go None t e = cc
+    go (Some v) t e = type_is l v t ∙ ap spell.type (eqb-true v w (tested (v == w) tt x e).0)
+
+same_number : (n : ℕ) → (n == n) ≡ true
+same_number n = grind (arith, nat_tests)
+
+tested_type : (w : ℕ) (o : Option ℕ) → o ≡ Some w → elim o [ None ↦ None | Some v ↦ cond (v == w) (Some (tt {0})) None ] ≡ Some (tt {0})
+tested_type w None e = cc
+tested_type w (Some v) e = let s = some_is v w e in let b : (v == w) ≡ true = ap (λ z. z == w) s ∙ same_number w in rw b refl
+
+the_type_again : (w : ℕ) (x : Unit {0}) → IsWidth w → the_type w (spell.type w) ≡ Some x
+the_type_again w x h = tested_type w (type_of (spell.type w)) (is_width w h)
+
+pub the_type_exact : (w : ℕ) → IsWidth w → Exact (one (the_type w)) (λ _. spell.type w ∷ []) (λ _. Unit {0}) anything
+the_type_exact w h = one_exact (the_type w) (λ _. spell.type w) (λ _. Unit {0}) (the_type_is w) (λ l x e. tt) (λ x f. the_type_again w x h) tt tt
+
+-- the part of a pair
+
+record Part (t : List ℕ) (i : ℕ) : Type 0 where
+  form : t ≡ decimal i
+  low : i ≤ 1
+
+part_number : (t : List ℕ) (i : ℕ) → part_index (number t) ≡ Some i → Part t i
+part_number t i e = ⊎_elim
+    (λ p. subst (Part t) p.1 (record { form = same_text t (codes "0") p.0 ∙ sym (decimal_digit 0 (omega arith)); low = omega arith }))
+    (λ p. let q = tested (bytes_eq t (codes "1")) 1 i p.1 in
+    subst (Part t) q.1 (record { form = same_text t (codes "1") q.0 ∙ sym (decimal_digit 1 (omega arith)); low = omega arith }))
+    (first_or (bytes_eq t (codes "0")) 0 i (cond (bytes_eq t (codes "1")) (Some 1) None) e)
+
+part_is : (l : Lexeme) (i : ℕ) → part_index l ≡ Some i → l ≡ number (decimal i)
+part_is (number t) i e = ap number (part_number t i e).form
+part_is _ i e = cc
+
+part_fits : (l : Lexeme) (i : ℕ) → part_index l ≡ Some i → i ≤ 1
+part_fits (number t) i e = (part_number t i e).low
+part_fits _ i e = cc
+
+part_again : (i : ℕ) → i ≤ 1 → part_index (number (decimal i)) ≡ Some i
+part_again zero h = ap (λ z. part_index (number z)) (decimal_digit 0 (omega arith))
+part_again (suc zero) h = ap (λ z. part_index (number z)) (decimal_digit 1 (omega arith))
+part_again (suc (suc n)) h = absurd (omega arith)
+
+pub part_exact : Exact (one part_index) (λ i. number (decimal i) ∷ []) (λ i. i ≤ 1) anything
+part_exact = one_exact part_index (λ i. number (decimal i)) (λ i. i ≤ 1) part_is part_fits part_again 0 (omega arith)
+
+-- `label %name`
+
+pub target_exact : Exact target spell.target (λ _. Unit {0}) anything
+unfolding target
+target_exact = skip_exact (the_word (codes "label")) (word (codes "label")) (one local_name) (λ x. local x ∷ []) (λ _. Unit {0}) anything (word_exact (codes "label")) local_exact
+
+-- two operands
+
+abbrev pub Two : Type 0
+Two = Written × Written
+
+abbrev pub FitsTwo : ℕ → Two → Type 0
+FitsTwo w p = FitsValue w p.0 × FitsValue w p.1
+
+pub operands_exact : (w : ℕ) → IsWidth w → Exact (operands w) (λ p. spell.value p.0 ++ (mark 44 ∷ spell.value p.1)) (FitsTwo w) anything
+operands_exact w h = after_exact (one (value_of w)) (λ _. skip (the_mark 44) (one (value_of w))) spell.value (FitsValue w) anything
+    (λ _ b. mark 44 ∷ spell.value b) (λ _ b. FitsValue w b) (λ _ b. anything b) (value_exact w h)
+    (λ _ _. skip_exact (the_mark 44) (mark 44) (one (value_of w)) spell.value (FitsValue w) anything (mark_exact 44) (value_exact w h))
+    (λ a b rest f g m. may_anything a ((mark 44 ∷ spell.value b) ++ rest))
+
+pub typed_operands_exact : (w : ℕ) → IsWidth w → Exact (typed_operands w) (λ p. spell.value p.0 ++ (mark 44 ∷ spell.typed w p.1)) (FitsTwo w) anything
+typed_operands_exact w h = after_exact (one (value_of w)) (λ _. skip (the_mark 44) (skip (the_type w) (one (value_of w)))) spell.value (FitsValue w) anything
+    (λ _ b. mark 44 ∷ spell.typed w b) (λ _ b. FitsValue w b) (λ _ b. anything b) (value_exact w h)
+    (λ _ _. skip_exact (the_mark 44) (mark 44) (skip (the_type w) (one (value_of w))) (spell.typed w) (FitsValue w) anything (mark_exact 44)
+    (skip_exact (the_type w) (spell.type w) (one (value_of w)) spell.value (FitsValue w) anything (the_type_exact w h) (value_exact w h)))
+    (λ a b rest f g m. may_anything a ((mark 44 ∷ spell.typed w b) ++ rest))
+
+-- a type, and what it stands before
+
+module _ {B : Type 0} (k : ℕ → Reader B) (sb : ℕ → B → List Lexeme) (FB : ℕ → B → Type 0) (ek : (w : ℕ) → IsWidth w → Exact (k w) (sb w) (FB w) anything) where
+  pub typed_exact : Exact (after (one type_of) k) (λ p. spell.type p.0 ∷ sb p.0 p.1) (λ p. IsWidth p.0 × FB p.0 p.1) anything
+  typed_exact = after_exact (one type_of) k (λ w. spell.type w ∷ []) IsWidth anything sb FB (λ _ b. anything b) type_exact ek (λ a b rest f g m. may_anything a (sb a b ++ rest))
+
+-- each operation
+
+-- no attribute group may follow the groups of a call
+abbrev pub group_follow : List (List ℕ) → Lexeme → Bool
+group_follow = follow_many is_group anything
+
+abbrev pub op_follow : Operation → Lexeme → Bool
+op_follow (Operation.Two words _ _ _ _) = group_follow words.groups
+op_follow (Operation.One words _ _ _ _) = group_follow words.groups
+op_follow (Operation.Over words _ _ _ _) = group_follow words.groups
+op_follow (Operation.Assume words _) = group_follow words.groups
+op_follow _ = λ _. true
+
+abbrev pub behind : Operation → List Lexeme
+behind op = drop 1 (spell.operation op)
+
+abbrev pub ComparedFits : Pred × (ℕ × Two) → Type 0
+ComparedFits p = Unit {0} × (IsWidth p.1.0 × FitsTwo p.1.0 p.1.1)
+
+pub compare_exact : Exact compare behind (Made compare_of ComparedFits) op_follow
+unfolding compare
+compare_exact = made_exact compare_of (after (one (word_in preds)) (λ _. after (one type_of) operands))
+    (λ p. word (pred_word p.0) ∷ spell.type p.1.0 ∷ (spell.value p.1.1.0 ++ (mark 44 ∷ spell.value p.1.1.1))) ComparedFits anything behind op_follow
+    (after_exact (one (word_in preds)) (λ _. after (one type_of) operands) (λ p. word (pred_word p) ∷ []) (λ _. Unit {0}) anything
+    (λ _ q. spell.type q.0 ∷ (spell.value q.1.0 ++ (mark 44 ∷ spell.value q.1.1))) (λ _ q. IsWidth q.0 × FitsTwo q.0 q.1) (λ _ q. anything q)
+    pred_exact (λ _ _. typed_exact operands (λ w p. spell.value p.0 ++ (mark 44 ∷ spell.value p.1)) FitsTwo operands_exact)
+    (λ a b rest f g m. may_anything a ((spell.type b.0 ∷ (spell.value b.1.0 ++ (mark 44 ∷ spell.value b.1.1))) ++ rest)))
+    (λ p f. refl) (λ p f. refl)
+
+abbrev pub SelectedFits : Written × (ℕ × Two) → Type 0
+SelectedFits p = FitsValue 1 p.0 × (IsWidth p.1.0 × FitsTwo p.1.0 p.1.1)
+
+abbrev selected : Reader (Written × (ℕ × Two))
+selected = after (one (value_of 1)) (λ _. skip (the_mark 44) (after (one type_of) typed_operands))
+
+abbrev selected_spelling : Written × (ℕ × Two) → List Lexeme
+selected_spelling p = spell.value p.0 ++ (mark 44 ∷ spell.type p.1.0 ∷ (spell.value p.1.1.0 ++ (mark 44 ∷ spell.typed p.1.0 p.1.1.1)))
+
+selected_exact : Exact selected selected_spelling SelectedFits anything
+selected_exact = after_exact (one (value_of 1)) (λ _. skip (the_mark 44) (after (one type_of) typed_operands)) spell.value (FitsValue 1) anything
+    (λ _ q. mark 44 ∷ spell.type q.0 ∷ (spell.value q.1.0 ++ (mark 44 ∷ spell.typed q.0 q.1.1))) (λ _ q. IsWidth q.0 × FitsTwo q.0 q.1) (λ _ q. anything q)
+    (value_exact 1 one_wide)
+    (λ _ _. skip_exact (the_mark 44) (mark 44) (after (one type_of) typed_operands) (λ q. spell.type q.0 ∷ (spell.value q.1.0 ++ (mark 44 ∷ spell.typed q.0 q.1.1))) (λ q. IsWidth q.0 × FitsTwo q.0 q.1) anything
+    (mark_exact 44) (typed_exact typed_operands (λ w p. spell.value p.0 ++ (mark 44 ∷ spell.typed w p.1)) FitsTwo typed_operands_exact))
+    (λ a b rest f g m. may_anything a ((mark 44 ∷ spell.type b.0 ∷ (spell.value b.1.0 ++ (mark 44 ∷ spell.typed b.0 b.1.1))) ++ rest))
+
+pub select_exact : Exact select behind (Made select_of SelectedFits) op_follow
+unfolding select
+select_exact = made_exact select_of (skip (the_type 1) selected) (λ p. spell.type 1 ∷ selected_spelling p) SelectedFits anything behind op_follow
+    (skip_exact (the_type 1) (spell.type 1) selected selected_spelling SelectedFits anything (the_type_exact 1 one_wide) selected_exact)
+    (λ p f. refl) (λ p f. refl)
+
+abbrev pub ConvertedFits : ℕ × (Written × ℕ) → Type 0
+ConvertedFits p = IsWidth p.0 × (FitsValue p.0 p.1.0 × IsWidth p.1.1)
+
+pub convert_exact : (cast : Cast) → Exact (convert cast) behind (Made (convert_of cast) ConvertedFits) op_follow
+unfolding convert
+convert_exact cast = made_exact (convert_of cast) (after (one type_of) (λ width. after (one (value_of width)) (λ _. skip (the_word (codes "to")) (one type_of))))
+    (λ p. spell.type p.0 ∷ (spell.value p.1.0 ++ (word (codes "to") ∷ spell.type p.1.1 ∷ []))) ConvertedFits anything behind op_follow
+    (typed_exact (λ width. after (one (value_of width)) (λ _. skip (the_word (codes "to")) (one type_of)))
+    (λ _ q. spell.value q.0 ++ (word (codes "to") ∷ spell.type q.1 ∷ [])) (λ w q. FitsValue w q.0 × IsWidth q.1)
+    (λ w h. after_exact (one (value_of w)) (λ _. skip (the_word (codes "to")) (one type_of)) spell.value (FitsValue w) anything
+    (λ _ t. word (codes "to") ∷ spell.type t ∷ []) (λ _ t. IsWidth t) (λ _ t. anything t) (value_exact w h)
+    (λ _ _. skip_exact (the_word (codes "to")) (word (codes "to")) (one type_of) (λ t. spell.type t ∷ []) IsWidth anything (word_exact (codes "to")) type_exact)
+    (λ a b rest f g m. may_anything a ((word (codes "to") ∷ spell.type b ∷ []) ++ rest))))
+    (λ p f. refl) (λ p f. refl)
+
+abbrev pub TypedFits : ℕ × Written → Type 0
+TypedFits p = IsWidth p.0 × FitsValue p.0 p.1
+
+pub freeze_exact : Exact freeze behind (Made freeze_of TypedFits) op_follow
+unfolding freeze
+freeze_exact = made_exact freeze_of (after (one type_of) (λ width. one (value_of width))) (λ p. spell.type p.0 ∷ spell.value p.1) TypedFits anything behind op_follow
+    (typed_exact (λ width. one (value_of width)) (λ _. spell.value) FitsValue value_exact) (λ p f. refl) (λ p f. refl)
+
+pub pair_type_exact : Exact pair_type spell.pair_type IsWidth anything
+unfolding pair_type
+pair_type_exact = skip_exact (the_mark 123) (mark 123) (ended (ended (ended (one type_of) (the_mark 44)) (the_type 1)) (the_mark 125))
+    (λ w. spell.type w ∷ mark 44 ∷ spell.type 1 ∷ mark 125 ∷ []) IsWidth anything (mark_exact 123)
+    (ended_exact (ended (ended (one type_of) (the_mark 44)) (the_type 1)) (the_mark 125) (mark 125) (λ w. spell.type w ∷ mark 44 ∷ spell.type 1 ∷ []) IsWidth anything
+    (ended_exact (ended (one type_of) (the_mark 44)) (the_type 1) (spell.type 1) (λ w. spell.type w ∷ mark 44 ∷ []) IsWidth anything
+    (ended_exact (one type_of) (the_mark 44) (mark 44) (λ w. spell.type w ∷ []) IsWidth anything type_exact (mark_exact 44) (λ x f. refl))
+    (the_type_exact 1 one_wide) (λ x f. refl))
+    (mark_exact 125) (λ x f. refl))
+
+abbrev pub ExtractedFits : ℕ × (List ℕ × ℕ) → Type 0
+ExtractedFits p = IsWidth p.0 × (Unit {0} × (p.1.1 ≤ 1))
+
+pub extract_exact : Exact extract behind (Made extract_of ExtractedFits) op_follow
+unfolding extract
+extract_exact = made_exact extract_of (after pair_type (λ _. after (one local_name) (λ _. skip (the_mark 44) (one part_index))))
+    (λ p. spell.pair_type p.0 ++ (local p.1.0 ∷ mark 44 ∷ number (decimal p.1.1) ∷ [])) ExtractedFits anything behind op_follow
+    (after_exact pair_type (λ _. after (one local_name) (λ _. skip (the_mark 44) (one part_index))) spell.pair_type IsWidth anything
+    (λ _ q. local q.0 ∷ mark 44 ∷ number (decimal q.1) ∷ []) (λ _ q. Unit {0} × (q.1 ≤ 1)) (λ _ q. anything q) pair_type_exact
+    (λ _ _. after_exact (one local_name) (λ _. skip (the_mark 44) (one part_index)) (λ x. local x ∷ []) (λ _. Unit {0}) anything
+    (λ _ i. mark 44 ∷ number (decimal i) ∷ []) (λ _ i. i ≤ 1) (λ _ i. anything i) local_exact
+    (λ _ _. skip_exact (the_mark 44) (mark 44) (one part_index) (λ i. number (decimal i) ∷ []) (λ i. i ≤ 1) anything (mark_exact 44) part_exact)
+    (λ a b rest f g m. refl))
+    (λ a b rest f g m. refl))
+    (λ p f. refl) (λ p f. refl)
+
+-- each terminator
+
+abbrev pub behind_transfer : Transfer → List Lexeme
+behind_transfer t = drop 1 (spell.transfer t)
+
+pub returned_exact : Exact returned behind_transfer (Made return_of TypedFits) anything
+unfolding returned
+returned_exact = made_exact return_of (after (one type_of) (λ width. one (value_of width))) (λ p. spell.type p.0 ∷ spell.value p.1) TypedFits anything behind_transfer anything
+    (typed_exact (λ width. one (value_of width)) (λ _. spell.value) FitsValue value_exact) (λ p f. refl) (λ p f. refl)
+
+abbrev pub ConditionFits : Written × (List ℕ × List ℕ) → Type 0
+ConditionFits p = FitsValue 1 p.0 × (Unit {0} × Unit {0})
+
+abbrev conditional : Reader (Written × (List ℕ × List ℕ))
+conditional = after (one (value_of 1)) (λ _. skip (the_mark 44) (after target (λ _. skip (the_mark 44) target)))
+
+abbrev conditional_spelling : Written × (List ℕ × List ℕ) → List Lexeme
+conditional_spelling p = spell.value p.0 ++ (mark 44 ∷ (spell.target p.1.0 ++ (mark 44 ∷ spell.target p.1.1)))
+
+conditional_exact : Exact conditional conditional_spelling ConditionFits anything
+conditional_exact = after_exact (one (value_of 1)) (λ _. skip (the_mark 44) (after target (λ _. skip (the_mark 44) target))) spell.value (FitsValue 1) anything
+    (λ _ q. mark 44 ∷ (spell.target q.0 ++ (mark 44 ∷ spell.target q.1))) (λ _ _. Unit {0} × Unit {0}) (λ _ q. anything q) (value_exact 1 one_wide)
+    (λ _ _. skip_exact (the_mark 44) (mark 44) (after target (λ _. skip (the_mark 44) target)) (λ q. spell.target q.0 ++ (mark 44 ∷ spell.target q.1)) (λ _. Unit {0} × Unit {0}) anything (mark_exact 44)
+    (after_exact target (λ _. skip (the_mark 44) target) spell.target (λ _. Unit {0}) anything (λ _ x. mark 44 ∷ spell.target x) (λ _ _. Unit {0}) (λ _ x. anything x) target_exact
+    (λ _ _. skip_exact (the_mark 44) (mark 44) target spell.target (λ _. Unit {0}) anything (mark_exact 44) target_exact)
+    (λ a b rest f g m. refl)))
+    (λ a b rest f g m. may_anything a ((mark 44 ∷ (spell.target b.0 ++ (mark 44 ∷ spell.target b.1))) ++ rest))
+
+pub condition_exact : Exact condition behind_transfer (Made condition_of ConditionFits) anything
+unfolding condition
+condition_exact = made_exact condition_of (skip (the_type 1) conditional) (λ p. spell.type 1 ∷ conditional_spelling p) ConditionFits anything behind_transfer anything
+    (skip_exact (the_type 1) (spell.type 1) conditional conditional_spelling ConditionFits anything (the_type_exact 1 one_wide) conditional_exact)
+    (λ p f. refl) (λ p f. refl)
+
+always_exact : Exact (made Transfer.Always target) behind_transfer (Made Transfer.Always (λ _. Unit {0})) anything
+always_exact = made_exact Transfer.Always target spell.target (λ _. Unit {0}) anything behind_transfer anything target_exact (λ p f. refl) (λ p f. refl)
+
+pub branch_exact : Exact branch behind_transfer (λ t. Made Transfer.Always (λ _. Unit {0}) t ⊎ Made condition_of ConditionFits t) anything
+unfolding branch
+branch_exact = choose_exact (is_word (codes "label")) (made Transfer.Always target) condition behind_transfer (Made Transfer.Always (λ _. Unit {0})) (Made condition_of ConditionFits) anything
+    always_exact condition_exact
+    (λ t rest m ok. ap (λ z. next_passes (is_word (codes "label")) (behind_transfer z ++ rest)) (sym m.is))
+    (λ t rest m ok. ap (λ z. next_passes (is_word (codes "label")) (behind_transfer z ++ rest)) (sym m.is))

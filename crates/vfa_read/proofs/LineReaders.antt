@@ -1,0 +1,236 @@
+-- Reading the lines of a block is exact.
+use Rattle.std.proofs.Common.{◌≡◌, ℕ, ◌<◌, Bool, true, false, ◌&&◌, List, [], ◌∷◌, ◌++◌, flat_map, length, Some, Ok, Err, ◌⊎◌, inl, inr, ⊎_elim, IsTrue, codes, refl, sym, ap, subst, append_assoc}
+use Rattle.vfa_ir.specs.declared.syntax.Attachment.{Attachment}
+use Rattle.vfa_ir.specs.declared.syntax.Incoming.{Incoming}
+use Rattle.vfa_ir.specs.declared.syntax.Line.{Line}
+use Rattle.vfa_ir.specs.declared.syntax.Operation.{Operation}
+use Rattle.vfa_ir.specs.declared.syntax.PhiPart.{PhiPart}
+use Rattle.vfa_ir.specs.declared.syntax.Written.{Written}
+use Rattle.vfa_ir.specs.Lexemes.{Lexeme, local, metadata, word, mark}
+use Rattle.vfa_ir.specs.Grammar.{IsWidth, FitsValue, FitsAttachment, FitsParts}
+use Rattle.vfa_ir.specs.Spelling as spell
+use Rattle.vfa_read.specs.Productions.{is_mark, same_state, metadata_pair, attachments, incoming, incoming_of, part_reader, phi_part, still_operands, phi_parts, phi_of, phi_rest, plain_of, plain_rest, operation}
+use Rattle.vfa_read.specs.Readers.{Reader, one, after, made, skip, ended, many, next_passes, ◌>>=◌}
+use Rattle.vfa_read.specs.Tables.{the_mark, local_name, type_of, value_of}
+use Rattle.vfa_read.proofs.Attached.{pair_exact, attachments_exact}
+use Rattle.vfa_read.proofs.Exact.{Exact, Made, anything, may, may_anything, after_exact, after_exact_with, made_exact, choose_exact, skip_exact, ended_exact, fits_exact, spelled_exact}
+use Rattle.vfa_read.proofs.FormReaders.{op_follow}
+use Rattle.vfa_read.proofs.LeafReaders.{mark_exact, local_exact, value_exact, type_exact}
+use Rattle.vfa_read.proofs.Many.{Begins, FitsFrom, follow_many, follow_last, many_exact, many_item, many_bad, many_done, shorter}
+use Rattle.vfa_read.proofs.OperationReaders.{DefiningFits, operation_exact}
+
+-- an operand of a phi
+
+abbrev Pair : Type 0
+Pair = Written × List ℕ
+
+abbrev PairFits : ℕ → Pair → Type 0
+PairFits w p = FitsValue w p.0 × Unit {0}
+
+abbrev operand_pair : ℕ → Reader Pair
+operand_pair w = after (one (value_of w)) (λ _. skip (the_mark 44) (one local_name))
+
+operand_pair_exact : (w : ℕ) → IsWidth w → Exact (operand_pair w) (λ p. spell.value p.0 ++ (mark 44 ∷ local p.1 ∷ [])) (PairFits w) anything
+operand_pair_exact w h = after_exact (one (value_of w)) (λ _. skip (the_mark 44) (one local_name)) spell.value (FitsValue w) anything (λ _ x. mark 44 ∷ local x ∷ []) (λ _ _. Unit {0}) (λ _ x. anything x)
+    (value_exact w h) (λ _ _. skip_exact (the_mark 44) (mark 44) (one local_name) (λ x. local x ∷ []) (λ _. Unit {0}) anything (mark_exact 44) local_exact)
+    (λ a b rest f g m. may_anything a ((mark 44 ∷ local b ∷ []) ++ rest))
+
+abbrev IncomingFits : ℕ → Incoming → Type 0
+IncomingFits w i = FitsValue w i.value
+
+incoming_exact : (w : ℕ) → IsWidth w → Exact (incoming w) spell.incoming (IncomingFits w) anything
+unfolding incoming
+incoming_exact w h =
+    let read = skip (the_mark 91) (ended (operand_pair w) (the_mark 93)) in
+    fits_exact (made incoming_of read) spell.incoming (Made incoming_of (PairFits w)) (IncomingFits w) anything
+    (made_exact incoming_of read (λ p. mark 91 ∷ ((spell.value p.0 ++ (mark 44 ∷ local p.1 ∷ [])) ++ (mark 93 ∷ []))) (PairFits w) anything spell.incoming anything
+    (skip_exact (the_mark 91) (mark 91) (ended (operand_pair w) (the_mark 93)) (λ p. (spell.value p.0 ++ (mark 44 ∷ local p.1 ∷ [])) ++ (mark 93 ∷ [])) (PairFits w) anything (mark_exact 91)
+    (ended_exact (operand_pair w) (the_mark 93) (mark 93) (λ p. spell.value p.0 ++ (mark 44 ∷ local p.1 ∷ [])) (PairFits w) anything (operand_pair_exact w h) (mark_exact 93) (λ x f. refl)))
+    (λ p f. ap (λ z. mark 91 ∷ z) (sym (append_assoc (spell.value p.0) (mark 44 ∷ local p.1 ∷ []) (mark 93 ∷ [])))) (λ p f. refl))
+    (λ i m. subst (IncomingFits w) m.is m.fits.0)
+    (λ i f. record { from = (i.value, i.block); fits = (f, tt); is = refl })
+
+-- the parts of a phi
+
+abbrev behind_comma : PhiPart → List Lexeme
+behind_comma (PhiPart.Entry i) = spell.incoming i
+behind_comma (PhiPart.Attached a) = metadata a.kind ∷ metadata a.node ∷ []
+
+abbrev PartFits : ℕ → Bool → PhiPart → Type 0
+PartFits w operands (PhiPart.Entry i) = IsTrue operands × FitsValue w i.value
+PartFits w operands (PhiPart.Attached a) = FitsAttachment a
+
+entry_part : (w : ℕ) → IsWidth w → Exact (made PhiPart.Entry (incoming w)) behind_comma (Made PhiPart.Entry (IncomingFits w)) anything
+entry_part w h = made_exact PhiPart.Entry (incoming w) spell.incoming (IncomingFits w) anything behind_comma anything (incoming_exact w h) (λ i f. refl) (λ i f. refl)
+
+attached_part : Exact (made PhiPart.Attached metadata_pair) behind_comma (Made PhiPart.Attached FitsAttachment) anything
+attached_part = made_exact PhiPart.Attached metadata_pair (λ a. metadata a.kind ∷ metadata a.node ∷ []) FitsAttachment anything behind_comma anything pair_exact (λ a f. refl) (λ a f. refl)
+
+part_from : (w : ℕ) (p : PhiPart) → PartFits w true p → Made PhiPart.Entry (IncomingFits w) p ⊎ Made PhiPart.Attached FitsAttachment p
+part_from w (PhiPart.Entry i) f = inl (record { from = i; fits = f.1; is = refl })
+part_from w (PhiPart.Attached a) f = inr (record { from = a; fits = f; is = refl })
+
+attached_from : (w : ℕ) (p : PhiPart) → PartFits w false p → Made PhiPart.Attached FitsAttachment p
+attached_from w (PhiPart.Entry i) f = let no = f.0 in cc
+attached_from w (PhiPart.Attached a) f = record { from = a; fits = f; is = refl }
+
+part_reader_exact : (w : ℕ) → IsWidth w → (operands : Bool) → Exact (part_reader w operands) behind_comma (PartFits w operands) anything
+part_reader_exact w h true = fits_exact (part_reader w true) behind_comma (λ p. Made PhiPart.Entry (IncomingFits w) p ⊎ Made PhiPart.Attached FitsAttachment p) (PartFits w true) anything
+    (choose_exact (is_mark 91) (made PhiPart.Entry (incoming w)) (made PhiPart.Attached metadata_pair) behind_comma (Made PhiPart.Entry (IncomingFits w)) (Made PhiPart.Attached FitsAttachment) anything
+    (entry_part w h) attached_part
+    (λ p rest m k. ap (λ z. next_passes (is_mark 91) (behind_comma z ++ rest)) (sym m.is))
+    (λ p rest m k. ap (λ z. next_passes (is_mark 91) (behind_comma z ++ rest)) (sym m.is)))
+    (λ p f. ⊎_elim (λ m. subst (PartFits w true) m.is (refl, m.fits)) (λ m. subst (PartFits w true) m.is m.fits) f) (part_from w)
+part_reader_exact w h false = fits_exact (part_reader w false) behind_comma (Made PhiPart.Attached FitsAttachment) (PartFits w false) anything attached_part
+    (λ p m. subst (PartFits w false) m.is m.fits) (attached_from w)
+
+part_spelled : (p : PhiPart) → mark 44 ∷ behind_comma p ≡ spell.phi_part p
+part_spelled (PhiPart.Entry i) = refl
+part_spelled (PhiPart.Attached a) = refl
+
+phi_part_exact : (w : ℕ) → IsWidth w → (operands : Bool) → Exact (phi_part w operands) spell.phi_part (PartFits w operands) anything
+unfolding phi_part
+phi_part_exact w h operands = spelled_exact (skip (the_mark 44) (part_reader w operands)) (λ p. mark 44 ∷ behind_comma p) spell.phi_part (PartFits w operands) anything
+    (skip_exact (the_mark 44) (mark 44) (part_reader w operands) behind_comma (PartFits w operands) anything (mark_exact 44) (part_reader_exact w h operands)) (λ p f. part_spelled p)
+
+part_begins : (w : ℕ) (s : Bool) (p : PhiPart) → PartFits w s p → Begins (is_mark 44) (spell.phi_part p)
+part_begins w s p f = record { head = mark 44; more = behind_comma p; is = sym (part_spelled p); passes = refl }
+
+parts_from : (w : ℕ) (s : Bool) (ps : List PhiPart) → FitsParts w s ps → FitsFrom (PartFits w) still_operands s ps
+parts_from w s [] f = tt
+parts_from w s (PhiPart.Entry i ∷ ps) f = ((f.0, f.1), parts_from w s ps f.2)
+parts_from w s (PhiPart.Attached a ∷ ps) f = (f.0, parts_from w false ps f.1)
+
+parts_to : (w : ℕ) (s : Bool) (ps : List PhiPart) → FitsFrom (PartFits w) still_operands s ps → FitsParts w s ps
+parts_to w s [] f = tt
+parts_to w s (PhiPart.Entry i ∷ ps) f = (f.0.0, f.0.1, parts_to w s ps f.1)
+parts_to w s (PhiPart.Attached a ∷ ps) f = (f.0, parts_to w false ps f.1)
+
+abbrev pub parts_follow : List PhiPart → Lexeme → Bool
+parts_follow = follow_many (is_mark 44) anything
+
+module _ (w : ℕ) (h : IsWidth w) where
+  pub phi_parts_exact : (s : Bool) → Exact (phi_parts w s) (flat_map spell.phi_part) (FitsParts w s) parts_follow
+  unfolding phi_parts
+  phi_parts_exact s = fits_exact (many (is_mark 44) (phi_part w) still_operands s) (flat_map spell.phi_part) (FitsFrom (PartFits w) still_operands s) (FitsParts w s) parts_follow
+      (many_exact (is_mark 44) (phi_part w) still_operands spell.phi_part (PartFits w) anything (phi_part_exact w h) (part_begins w) (λ x l e. refl) s)
+      (parts_to w s) (parts_from w s)
+
+  pub parts_done : (s : Bool) (ts : List Lexeme) → next_passes (is_mark 44) ts ≡ false → phi_parts w s ts ≡ Ok ([], ts)
+  unfolding phi_parts
+  parts_done s ts t = many_done (is_mark 44) (phi_part w) still_operands spell.phi_part (PartFits w) anything (phi_part_exact w h) (part_begins w) (λ x l e. refl) s ts t
+
+  pub parts_item : (s : Bool) (ts rest : List Lexeme) (x : PhiPart) → next_passes (is_mark 44) ts ≡ true → phi_part w s ts ≡ Ok (x, rest) → phi_parts w s ts ≡ (phi_parts w (still_operands s x) rest >>= λ q. Ok (x ∷ q.0, q.1))
+  unfolding phi_parts
+  parts_item s ts rest x t e = many_item (is_mark 44) (phi_part w) still_operands spell.phi_part (PartFits w) anything (phi_part_exact w h) (part_begins w) (λ x l e. refl) s ts rest x t e
+
+  pub parts_bad : (s : Bool) (ts : List Lexeme) (k : ℕ) → next_passes (is_mark 44) ts ≡ true → phi_part w s ts ≡ Err k → phi_parts w s ts ≡ Err k
+  unfolding phi_parts
+  parts_bad s ts k t e = many_bad (is_mark 44) (phi_part w) still_operands spell.phi_part (PartFits w) anything (phi_part_exact w h) (part_begins w) (λ x l e. refl) s ts k t e
+
+  pub part_shorter : (s : Bool) (ts rest : List Lexeme) (x : PhiPart) → phi_part w s ts ≡ Ok (x, rest) → length rest < length ts
+  part_shorter s ts rest x e = shorter (is_mark 44) (phi_part w) still_operands spell.phi_part (PartFits w) anything (phi_part_exact w h) (part_begins w) (λ x l e. refl) s ts rest x e
+
+-- a phi, behind its word
+
+abbrev pub PhiBody : Type 0
+PhiBody = ℕ × (Incoming × List PhiPart)
+
+abbrev pub PhiBodyFits : PhiBody → Type 0
+PhiBodyFits p = IsWidth p.0 × (FitsValue p.0 p.1.0.value × FitsParts p.0 true p.1.1)
+
+abbrev pub behind_phi : Line → List Lexeme
+behind_phi (Line.Phi p) = spell.type p.width ∷ (spell.incoming p.first ++ flat_map spell.phi_part p.parts)
+behind_phi (Line.Plain _) = []
+
+abbrev pub attach_follow : List Attachment → Lexeme → Bool
+attach_follow = follow_many (is_mark 44) anything
+
+abbrev pub plain_follow : Operation → List Attachment → Lexeme → Bool
+plain_follow op [] l = attach_follow [] l && op_follow op l
+plain_follow op (a ∷ xs) l = attach_follow (a ∷ xs) l
+
+abbrev pub line_follow : Line → Lexeme → Bool
+line_follow (Line.Phi p) = parts_follow p.parts
+line_follow (Line.Plain i) = plain_follow i.operation i.attached
+
+pub phi_rest_exact : (r : List ℕ) → Exact (phi_rest r) behind_phi (Made (phi_of r) PhiBodyFits) line_follow
+unfolding phi_rest
+phi_rest_exact r = made_exact (phi_of r) (after (one type_of) (λ width. after (incoming width) (λ _. phi_parts width true)))
+    (λ p. spell.type p.0 ∷ (spell.incoming p.1.0 ++ flat_map spell.phi_part p.1.1)) PhiBodyFits (λ p. parts_follow p.1.1) behind_phi line_follow
+    (after_exact (one type_of) (λ width. after (incoming width) (λ _. phi_parts width true)) (λ w. spell.type w ∷ []) IsWidth anything
+    (λ _ q. spell.incoming q.0 ++ flat_map spell.phi_part q.1) (λ w q. FitsValue w q.0.value × FitsParts w true q.1) (λ _ q. parts_follow q.1) type_exact
+    (λ w h. after_exact (incoming w) (λ _. phi_parts w true) spell.incoming (IncomingFits w) anything (λ _ ps. flat_map spell.phi_part ps) (λ _ ps. FitsParts w true ps) (λ _ ps. parts_follow ps)
+    (incoming_exact w h) (λ _ _. phi_parts_exact w h true) (λ a b rest f g m. may_anything a (flat_map spell.phi_part b ++ rest)))
+    (λ a b rest f g m. may_anything a ((spell.incoming b.0 ++ flat_map spell.phi_part b.1) ++ rest)))
+    (λ p f. refl) (λ p f. refl)
+
+-- another instruction with its metadata
+
+pub last_any : {A : Type 0} (xs : List A) (l : Lexeme) → follow_last {A = A} anything xs l ≡ true
+last_any [] l = refl
+last_any (x ∷ []) l = refl
+last_any (x ∷ y ∷ ys) l = last_any (y ∷ ys) l
+
+comma_behind : (op : Operation) → op_follow op (mark 44) ≡ true
+comma_behind (Operation.Binary _ _ _ _ _) = refl
+comma_behind (Operation.Compare _ _ _ _) = refl
+comma_behind (Operation.Select _ _ _ _) = refl
+comma_behind (Operation.Convert _ _ _ _) = refl
+comma_behind (Operation.Freeze _ _) = refl
+comma_behind (Operation.Extract _ _ _) = refl
+comma_behind (Operation.Two words _ _ _ _) = last_any words.groups (mark 44)
+comma_behind (Operation.One words _ _ _ _) = last_any words.groups (mark 44)
+comma_behind (Operation.Over words _ _ _ _) = last_any words.groups (mark 44)
+comma_behind (Operation.Assume words _) = last_any words.groups (mark 44)
+
+and_first : (a b : Bool) → (a && b) ≡ true → a ≡ true
+and_first true b e = refl
+and_first false b e = cc
+
+and_last : (a b : Bool) → (a && b) ≡ true → b ≡ true
+and_last true b e = e
+and_last false b e = cc
+
+and_both : (a b : Bool) → a ≡ true → b ≡ true → (a && b) ≡ true
+and_both a b e f = rw (e, f) refl
+
+plain_joins : (op : Operation) (xs : List Attachment) (rest : List Lexeme) → may (plain_follow op xs) rest ≡ true → may (op_follow op) (spell.attachments xs ++ rest) ≡ true
+plain_joins op [] [] m = refl
+plain_joins op [] (l ∷ ls) m = and_last (attach_follow [] l) (op_follow op l) m
+plain_joins op (a ∷ xs) rest m = comma_behind op
+
+plain_second : (op : Operation) (xs : List Attachment) (rest : List Lexeme) → may (plain_follow op xs) rest ≡ true → may (attach_follow xs) rest ≡ true
+plain_second op [] [] m = refl
+plain_second op [] (l ∷ ls) m = and_first (attach_follow [] l) (op_follow op l) m
+plain_second op (a ∷ xs) [] m = refl
+plain_second op (a ∷ xs) (l ∷ ls) m = m
+
+plain_both : (op : Operation) (xs : List Attachment) (rest : List Lexeme) → may (op_follow op) (spell.attachments xs ++ rest) ≡ true → may (attach_follow xs) rest ≡ true → may (plain_follow op xs) rest ≡ true
+plain_both op [] [] m k = refl
+plain_both op [] (l ∷ ls) m k = and_both (attach_follow [] l) (op_follow op l) k m
+plain_both op (a ∷ xs) [] m k = refl
+plain_both op (a ∷ xs) (l ∷ ls) m k = k
+
+abbrev pub AttachedFit : List Attachment → Type 0
+AttachedFit = FitsFrom {S = Unit {0}} (λ _. FitsAttachment) same_state tt
+
+module _ (op_reader : Reader Operation) (op_spelling : Operation → List Lexeme) (F : Operation → Type 0) (eo : Exact op_reader op_spelling F op_follow) where
+  abbrev pub AttachedOpFits : Operation × List Attachment → Type 0
+  AttachedOpFits p = F p.0 × AttachedFit p.1
+
+  pub attached_op_exact : Exact (after op_reader (λ _. attachments)) (λ p. op_spelling p.0 ++ spell.attachments p.1) AttachedOpFits (λ p. plain_follow p.0 p.1)
+  attached_op_exact = after_exact_with op_reader (λ _. attachments) op_spelling F op_follow (λ _ xs. spell.attachments xs) (λ _ xs. AttachedFit xs) (λ _ xs. attach_follow xs) plain_follow
+      eo (λ _ _. attachments_exact) (λ op xs rest f g m. plain_joins op xs rest m) plain_second plain_both
+
+abbrev pub PlainFits : Operation × List Attachment → Type 0
+PlainFits p = DefiningFits p.0 × AttachedFit p.1
+
+abbrev pub behind_equals : Line → List Lexeme
+behind_equals (Line.Phi p) = word (codes "phi") ∷ behind_phi (Line.Phi p)
+behind_equals (Line.Plain i) = spell.operation i.operation ++ spell.attachments i.attached
+
+pub plain_rest_exact : (r : List ℕ) → Exact (plain_rest r) behind_equals (Made (plain_of (Some r)) PlainFits) line_follow
+unfolding plain_rest
+plain_rest_exact r = made_exact (plain_of (Some r)) (after operation (λ _. attachments)) (λ p. spell.operation p.0 ++ spell.attachments p.1) PlainFits (λ p. plain_follow p.0 p.1) behind_equals line_follow
+    (attached_op_exact operation spell.operation DefiningFits operation_exact) (λ p f. refl) (λ p f. refl)

@@ -1,0 +1,343 @@
+-- Reading an operation and a terminator is exact for their spelling and what the grammar asks of them.
+use Rattle.std.proofs.Common.{◌≡◌, ℕ, Bool, true, false, ◌||◌, List, [], ◌∷◌, ◌++◌, Option, Some, None, ◌⊎◌, inl, inr, ⊎_elim, IsTrue, IfSome, bytes_eq, codes, refl, sym, ap, ◌∙◌, subst, true≢false}
+use Rattle.std.specs.List.{AllByRecursion, IsDistinct}
+use Rattle.std.specs.Prelude.{⊤}
+use Rattle.std.proofs.lemmas.List.Elements.{recursion_from_All, All-from_recursion}
+use Rattle.vfa_ir.specs.declared.operations.Bin.{Bin}
+use Rattle.vfa_ir.specs.declared.operations.Cast.{Cast}
+use Rattle.vfa_ir.specs.declared.syntax.Operation.{Operation}
+use Rattle.vfa_ir.specs.Lexemes.{Lexeme, word}
+use Rattle.vfa_ir.specs.Grammar.{IsWidth, FitsFlags, FitsOperation}
+use Rattle.vfa_ir.specs.Spelling as spell
+use Rattle.vfa_ir.specs.Words.{is_among, flags_of, bin_word, cast_word}
+use Rattle.vfa_read.specs.declared.forms.Form.{Form}
+use Rattle.vfa_read.specs.declared.intrinsics.Callee.{Callee}
+use Rattle.vfa_read.specs.Productions.{call, over_of, last_of, words_of, binary_of, compare_of, select_of, convert_of, freeze_of, extract_of, marked_call, forms, form_rest, formed, operation}
+use Rattle.vfa_read.specs.Readers.{one, after}
+use Rattle.vfa_read.specs.Tables.{lookup, word_in, the_word}
+use Rattle.vfa_read.proofs.BinaryReaders.{OptionalFits, WrapFits, FlagsFit, BinaryFits, binary_exact}
+use Rattle.vfa_read.proofs.CallReaders.{behind_call, CalleeFits, OverFits, PlainFits, call_exact}
+use Rattle.vfa_read.proofs.Exact.{Exact, Made, anything, may_anything, after_exact, made_exact, skip_exact, fits_exact}
+use Rattle.vfa_read.proofs.FormReaders.{op_follow, behind, ComparedFits, compare_exact, SelectedFits, select_exact, ConvertedFits, convert_exact, TypedFits, freeze_exact, ExtractedFits, extract_exact}
+use Rattle.vfa_read.proofs.LeafReaders.{table_exact, word_exact}
+use Rattle.vfa_read.proofs.Words.{same_text, same_itself}
+
+-- the words
+
+abbrev pub form_word : Form → List ℕ
+form_word (Form.Binary bin) = bin_word bin
+form_word Form.Compare = codes "icmp"
+form_word Form.Select = codes "select"
+form_word (Form.Convert cast) = cast_word cast
+form_word Form.Freeze = codes "freeze"
+form_word Form.Extract = codes "extractvalue"
+form_word Form.Call = codes "call"
+form_word Form.Tail = codes "tail"
+form_word Form.Notail = codes "notail"
+
+form_each : (f : Form) → lookup forms (form_word f) ≡ Some f
+form_each (Form.Binary Bin.Add) = refl
+form_each (Form.Binary Bin.Sub) = refl
+form_each (Form.Binary Bin.Mul) = refl
+form_each (Form.Binary Bin.Shl) = refl
+form_each (Form.Binary Bin.Udiv) = refl
+form_each (Form.Binary Bin.Sdiv) = refl
+form_each (Form.Binary Bin.Lshr) = refl
+form_each (Form.Binary Bin.Ashr) = refl
+form_each (Form.Binary Bin.Urem) = refl
+form_each (Form.Binary Bin.Srem) = refl
+form_each (Form.Binary Bin.And) = refl
+form_each (Form.Binary Bin.Or) = refl
+form_each (Form.Binary Bin.Xor) = refl
+form_each Form.Compare = refl
+form_each Form.Select = refl
+form_each (Form.Convert Cast.Zext) = refl
+form_each (Form.Convert Cast.Sext) = refl
+form_each (Form.Convert Cast.Trunc) = refl
+form_each Form.Freeze = refl
+form_each Form.Extract = refl
+form_each Form.Call = refl
+form_each Form.Tail = refl
+form_each Form.Notail = refl
+
+-- what stands behind each
+
+abbrev pub CallFits : Option (List ℕ) → Operation → Type 0
+CallFits m op = Made (over_of m) OverFits op ⊎ Made last_of (PlainFits m) op
+
+abbrev rest_spelling : Form → Operation → List Lexeme
+rest_spelling Form.Call op = behind_call op
+rest_spelling Form.Tail op = word (codes "call") ∷ behind_call op
+rest_spelling Form.Notail op = word (codes "call") ∷ behind_call op
+rest_spelling _ op = behind op
+
+abbrev RestFits : Form → Operation → Type 0
+RestFits (Form.Binary bin) = Made (binary_of bin) (BinaryFits bin)
+RestFits Form.Compare = Made compare_of ComparedFits
+RestFits Form.Select = Made select_of SelectedFits
+RestFits (Form.Convert cast) = Made (convert_of cast) ConvertedFits
+RestFits Form.Freeze = Made freeze_of TypedFits
+RestFits Form.Extract = Made extract_of ExtractedFits
+RestFits Form.Call = CallFits None
+RestFits Form.Tail = CallFits (Some (codes "tail"))
+RestFits Form.Notail = CallFits (Some (codes "notail"))
+
+marked_exact : (m : List ℕ) → Exact (marked_call m) (λ op. word (codes "call") ∷ behind_call op) (CallFits (Some m)) op_follow
+marked_exact m = skip_exact (the_word (codes "call")) (word (codes "call")) (call (Some m)) behind_call (CallFits (Some m)) op_follow (word_exact (codes "call")) (call_exact (Some m))
+
+form_rest_exact : (f : Form) → Exact (form_rest f) (rest_spelling f) (RestFits f) op_follow
+form_rest_exact (Form.Binary bin) = binary_exact bin
+form_rest_exact Form.Compare = compare_exact
+form_rest_exact Form.Select = select_exact
+form_rest_exact (Form.Convert cast) = convert_exact cast
+form_rest_exact Form.Freeze = freeze_exact
+form_rest_exact Form.Extract = extract_exact
+form_rest_exact Form.Call = call_exact None
+form_rest_exact Form.Tail = marked_exact (codes "tail")
+form_rest_exact Form.Notail = marked_exact (codes "notail")
+
+abbrev OpSpelled : Form → Operation → Type 0
+OpSpelled f op = spell.operation op ≡ word (form_word f) ∷ rest_spelling f op
+
+abbrev MarkedSpelled : Option (List ℕ) → Operation → Type 0
+MarkedSpelled m op = spell.operation op ≡ spell.optional_word m ++ (word (codes "call") ∷ behind_call op)
+
+callee_spelled : (m : Option (List ℕ)) (w : ℕ) (c : Callee) (op : Operation) → CalleeFits m w c op → MarkedSpelled m op
+callee_spelled m w (Callee.Two fun) op f = subst (MarkedSpelled m) f.is refl
+callee_spelled m w (Callee.One fun) op f = subst (MarkedSpelled m) f.is refl
+
+call_spelled : (m : Option (List ℕ)) (op : Operation) → CallFits m op → MarkedSpelled m op
+call_spelled m op f = ⊎_elim
+    (λ o. subst (MarkedSpelled m) o.is refl)
+    (λ p. subst (MarkedSpelled m) p.is (callee_spelled m p.from.0 p.from.1.0 p.from.1.1 p.fits.1.1)) f
+
+form_spelled : (f : Form) (op : Operation) → RestFits f op → OpSpelled f op
+form_spelled (Form.Binary bin) op m = subst (OpSpelled (Form.Binary bin)) m.is refl
+form_spelled Form.Compare op m = subst (OpSpelled Form.Compare) m.is refl
+form_spelled Form.Select op m = subst (OpSpelled Form.Select) m.is refl
+form_spelled (Form.Convert cast) op m = subst (OpSpelled (Form.Convert cast)) m.is refl
+form_spelled Form.Freeze op m = subst (OpSpelled Form.Freeze) m.is refl
+form_spelled Form.Extract op m = subst (OpSpelled Form.Extract) m.is refl
+form_spelled Form.Call op m = call_spelled None op m
+form_spelled Form.Tail op m = call_spelled (Some (codes "tail")) op m
+form_spelled Form.Notail op m = call_spelled (Some (codes "notail")) op m
+
+abbrev FormedFits : Form × Operation → Type 0
+FormedFits p = Unit {0} × RestFits p.0 p.1
+
+formed_exact : Exact operation spell.operation (Made formed FormedFits) op_follow
+unfolding operation
+formed_exact = made_exact formed (after (one (word_in forms)) form_rest) (λ p. word (form_word p.0) ∷ rest_spelling p.0 p.1) FormedFits (λ p. op_follow p.1) spell.operation op_follow
+    (after_exact (one (word_in forms)) form_rest (λ f. word (form_word f) ∷ []) (λ _. Unit {0}) anything rest_spelling RestFits (λ _ op. op_follow op)
+    (table_exact form_word forms refl form_each Form.Compare) (λ f _. form_rest_exact f) (λ a b rest f g m. may_anything a (rest_spelling a b ++ rest)))
+    (λ p f. form_spelled p.0 p.1 f.1) (λ p f. refl)
+
+-- what the grammar asks, of flags
+
+pub two_words : (x a b : List ℕ) → IsTrue (is_among x (a ∷ b ∷ [])) → (x ≡ a) ⊎ (x ≡ b)
+two_words x a b e = go (bytes_eq x a) refl (bytes_eq x b) refl
+  where
+    go : (p : Bool) → bytes_eq x a ≡ p → (q : Bool) → bytes_eq x b ≡ q → (x ≡ a) ⊎ (x ≡ b)
+    go true p q r = inl (same_text x a p)
+    go false p true r = inr (same_text x b r)
+    go false p false r = absurd (neither p r)
+      where
+        neither : bytes_eq x a ≡ false → bytes_eq x b ≡ false → ⊥
+        neither h k = true≢false (sym e ∙ rw (h, k) refl)
+
+pub among_first : (a b : List ℕ) → IsTrue (is_among a (a ∷ b ∷ []))
+among_first a b = let e = same_itself a in rw e refl
+
+pub among_second : (a b : List ℕ) → IsTrue (is_among b (a ∷ b ∷ []))
+among_second a b = let e = same_itself b in go (bytes_eq b a) e
+  where
+    go : (p : Bool) → bytes_eq b b ≡ true → (p || (bytes_eq b b || false)) ≡ true
+    go true e = refl
+    go false e = rw e refl
+
+abbrev ListFits : List (List ℕ) → List (List ℕ) → Type 0
+ListFits fs ws = AllByRecursion (λ w. IsTrue (is_among w fs)) ws × IsDistinct bytes_eq ws
+
+flags_to : (bin : Bin) (ws : List (List ℕ)) → ListFits (flags_of bin) ws → FitsFlags bin ws
+flags_to bin ws f = record { known = All-from_recursion (λ w. IsTrue (is_among w (flags_of bin))) ws f.0; once = f.1 }
+
+flags_from : (bin : Bin) (ws : List (List ℕ)) → FitsFlags bin ws → ListFits (flags_of bin) ws
+flags_from bin ws f = (recursion_from_All (λ w. IsTrue (is_among w (flags_of bin))) ws f.known, f.once)
+
+abbrev wrap_words : List (List ℕ)
+wrap_words = codes "nuw" ∷ codes "nsw" ∷ []
+
+wrap_to : (ws : List (List ℕ)) → WrapFits ws → ListFits wrap_words ws
+unfolding IsDistinct
+wrap_to ws f = ⊎_elim
+    (λ some. ⊎_elim
+    (λ m. subst (ListFits wrap_words) m.is (⊎_elim
+    (λ o. subst (λ z. ListFits wrap_words (codes "nuw" ∷ z)) o.is ((refl, (refl, tt)), ((refl, tt), (tt, tt))))
+    (λ n. subst (λ z. ListFits wrap_words (codes "nuw" ∷ z)) (sym n) ((refl, tt), (tt, tt))) m.fits.1))
+    (λ m. subst (ListFits wrap_words) m.is (⊎_elim
+    (λ o. subst (λ z. ListFits wrap_words (codes "nsw" ∷ z)) o.is ((refl, (refl, tt)), ((refl, tt), (tt, tt))))
+    (λ n. subst (λ z. ListFits wrap_words (codes "nsw" ∷ z)) (sym n) ((refl, tt), (tt, tt))) m.fits.1)) some)
+    (λ none. subst (ListFits wrap_words) (sym none) (tt, tt)) f
+
+-- two words that are equal are not distinct
+clash : (x y a : List ℕ) → x ≡ a → y ≡ a → bytes_eq x y ≡ false → ⊥
+clash x y a p q e = true≢false (sym (same_itself a) ∙ ap (λ z. bytes_eq z a) (sym p) ∙ ap (bytes_eq x) (sym q) ∙ e)
+
+pair_first : (x y : List ℕ) → x ≡ codes "nuw" → y ≡ codes "nsw" → WrapFits (x ∷ y ∷ [])
+pair_first x y p q = inl (inl (record { from = (tt, y ∷ []); fits = (tt, inl (record { from = tt; fits = tt; is = ap (λ z. z ∷ []) (sym q) })); is = ap (λ z. z ∷ y ∷ []) (sym p) }))
+
+pair_second : (x y : List ℕ) → x ≡ codes "nsw" → y ≡ codes "nuw" → WrapFits (x ∷ y ∷ [])
+pair_second x y p q = inl (inr (record { from = (tt, y ∷ []); fits = (tt, inl (record { from = tt; fits = tt; is = ap (λ z. z ∷ []) (sym q) })); is = ap (λ z. z ∷ y ∷ []) (sym p) }))
+
+wrap_one : (x : List ℕ) → (x ≡ codes "nuw") ⊎ (x ≡ codes "nsw") → WrapFits (x ∷ [])
+wrap_one x w = ⊎_elim
+    (λ p. inl (inl (record { from = (tt, []); fits = (tt, inr refl); is = ap (λ z. z ∷ []) (sym p) })))
+    (λ p. inl (inr (record { from = (tt, []); fits = (tt, inr refl); is = ap (λ z. z ∷ []) (sym p) }))) w
+
+wrap_two : (x y : List ℕ) → (x ≡ codes "nuw") ⊎ (x ≡ codes "nsw") → (y ≡ codes "nuw") ⊎ (y ≡ codes "nsw") → bytes_eq x y ≡ false → WrapFits (x ∷ y ∷ [])
+wrap_two x y v w e = ⊎_elim
+    (λ p. ⊎_elim (λ q. absurd (clash x y (codes "nuw") p q e)) (λ q. pair_first x y p q) w)
+    (λ p. ⊎_elim (λ q. pair_second x y p q) (λ q. absurd (clash x y (codes "nsw") p q e)) w) v
+
+no_three : (x y z a b : List ℕ) → (x ≡ a) ⊎ (x ≡ b) → (y ≡ a) ⊎ (y ≡ b) → (z ≡ a) ⊎ (z ≡ b) → bytes_eq x y ≡ false → bytes_eq x z ≡ false → bytes_eq y z ≡ false → ⊥
+no_three x y z a b u v w xy xz yz = ⊎_elim
+    (λ p. ⊎_elim (λ q. clash x y a p q xy) (λ q. ⊎_elim (λ r. clash x z a p r xz) (λ r. clash y z b q r yz) w) v)
+    (λ p. ⊎_elim (λ q. ⊎_elim (λ r. clash y z a q r yz) (λ r. clash x z b p r xz) w) (λ q. clash x y b p q xy) v) u
+
+wrap_from : (ws : List (List ℕ)) → ListFits wrap_words ws → WrapFits ws
+unfolding IsDistinct
+wrap_from [] f = inr refl
+wrap_from (x ∷ []) f = wrap_one x (two_words x (codes "nuw") (codes "nsw") f.0.0)
+wrap_from (x ∷ y ∷ []) f = wrap_two x y (two_words x (codes "nuw") (codes "nsw") f.0.0) (two_words y (codes "nuw") (codes "nsw") f.0.1.0) f.1.0.0
+wrap_from (x ∷ y ∷ z ∷ zs) f = absurd (no_three x y z (codes "nuw") (codes "nsw")
+    (two_words x (codes "nuw") (codes "nsw") f.0.0) (two_words y (codes "nuw") (codes "nsw") f.0.1.0) (two_words z (codes "nuw") (codes "nsw") f.0.1.1.0) f.1.0.0 f.1.0.1.0 f.1.1.0.0)
+
+one_word_is : (x a : List ℕ) → IsTrue (is_among x (a ∷ [])) → x ≡ a
+one_word_is x a e = go (bytes_eq x a) refl
+  where
+    go : (p : Bool) → bytes_eq x a ≡ p → x ≡ a
+    go true p = same_text x a p
+    go false p = absurd (true≢false (sym e ∙ rw p refl))
+
+exact_to : (ws : List (List ℕ)) → OptionalFits (codes "exact") ws → ListFits (codes "exact" ∷ []) ws
+unfolding IsDistinct
+exact_to ws f = ⊎_elim
+    (λ m. subst (ListFits (codes "exact" ∷ [])) m.is ((refl, tt), (tt, tt)))
+    (λ none. subst (ListFits (codes "exact" ∷ [])) (sym none) (tt, tt)) f
+
+exact_from : (ws : List (List ℕ)) → ListFits (codes "exact" ∷ []) ws → OptionalFits (codes "exact") ws
+unfolding IsDistinct
+exact_from [] f = inr refl
+exact_from (x ∷ []) f = inl (record { from = tt; fits = tt; is = ap (λ z. z ∷ []) (sym (one_word_is x (codes "exact") f.0.0)) })
+exact_from (x ∷ y ∷ ys) f = absurd (clash x y (codes "exact") (one_word_is x (codes "exact") f.0.0) (one_word_is y (codes "exact") f.0.1.0) f.1.0.0)
+
+none_to : (ws : List (List ℕ)) → ws ≡ [] → ListFits [] ws
+unfolding IsDistinct
+none_to ws e = subst (ListFits []) (sym e) (tt, tt)
+
+none_from : (ws : List (List ℕ)) → ListFits [] ws → ws ≡ []
+none_from [] f = refl
+none_from (x ∷ xs) f = let no = f.0.0 in cc
+
+flag_fits_to : (bin : Bin) (ws : List (List ℕ)) → FlagsFit bin ws → FitsFlags bin ws
+flag_fits_to Bin.Add ws f = flags_to Bin.Add ws (wrap_to ws f)
+flag_fits_to Bin.Sub ws f = flags_to Bin.Sub ws (wrap_to ws f)
+flag_fits_to Bin.Mul ws f = flags_to Bin.Mul ws (wrap_to ws f)
+flag_fits_to Bin.Shl ws f = flags_to Bin.Shl ws (wrap_to ws f)
+flag_fits_to Bin.Udiv ws f = flags_to Bin.Udiv ws (exact_to ws f)
+flag_fits_to Bin.Sdiv ws f = flags_to Bin.Sdiv ws (exact_to ws f)
+flag_fits_to Bin.Lshr ws f = flags_to Bin.Lshr ws (exact_to ws f)
+flag_fits_to Bin.Ashr ws f = flags_to Bin.Ashr ws (exact_to ws f)
+flag_fits_to Bin.Urem ws f = flags_to Bin.Urem ws (none_to ws f)
+flag_fits_to Bin.Srem ws f = flags_to Bin.Srem ws (none_to ws f)
+flag_fits_to Bin.And ws f = flags_to Bin.And ws (none_to ws f)
+flag_fits_to Bin.Or ws f = flags_to Bin.Or ws (none_to ws f)
+flag_fits_to Bin.Xor ws f = flags_to Bin.Xor ws (none_to ws f)
+
+flag_fits_from : (bin : Bin) (ws : List (List ℕ)) → FitsFlags bin ws → FlagsFit bin ws
+flag_fits_from Bin.Add ws f = wrap_from ws (flags_from Bin.Add ws f)
+flag_fits_from Bin.Sub ws f = wrap_from ws (flags_from Bin.Sub ws f)
+flag_fits_from Bin.Mul ws f = wrap_from ws (flags_from Bin.Mul ws f)
+flag_fits_from Bin.Shl ws f = wrap_from ws (flags_from Bin.Shl ws f)
+flag_fits_from Bin.Udiv ws f = exact_from ws (flags_from Bin.Udiv ws f)
+flag_fits_from Bin.Sdiv ws f = exact_from ws (flags_from Bin.Sdiv ws f)
+flag_fits_from Bin.Lshr ws f = exact_from ws (flags_from Bin.Lshr ws f)
+flag_fits_from Bin.Ashr ws f = exact_from ws (flags_from Bin.Ashr ws f)
+flag_fits_from Bin.Urem ws f = none_from ws (flags_from Bin.Urem ws f)
+flag_fits_from Bin.Srem ws f = none_from ws (flags_from Bin.Srem ws f)
+flag_fits_from Bin.And ws f = none_from ws (flags_from Bin.And ws f)
+flag_fits_from Bin.Or ws f = none_from ws (flags_from Bin.Or ws f)
+flag_fits_from Bin.Xor ws f = none_from ws (flags_from Bin.Xor ws f)
+
+-- what the grammar asks, of operations
+
+abbrev pub IsDefining : Operation → Type 0
+IsDefining (Operation.Assume _ _) = ⊥
+IsDefining _ = ⊤
+
+abbrev pub DefiningFits : Operation → Type 0
+DefiningFits op = FitsOperation op × IsDefining op
+
+abbrev MarkerFits : Option (List ℕ) → Type 0
+MarkerFits m = IfSome m (λ w. IsTrue (is_among w (codes "tail" ∷ codes "notail" ∷ [])))
+
+callee_to : (m : Option (List ℕ)) (w : ℕ) (c : Callee) (op : Operation) → MarkerFits m → IsWidth w → CalleeFits m w c op → DefiningFits op
+callee_to m w (Callee.Two fun) op k h f = subst DefiningFits f.is ((record { marker = k }, record { of_width = h; first = f.fits.0.0; second = f.fits.0.1 }), tt)
+callee_to m w (Callee.One fun) op k h f = subst DefiningFits f.is ((record { marker = k }, h, f.fits.0.0, f.fits.0.1), tt)
+
+call_to : (m : Option (List ℕ)) (op : Operation) → MarkerFits m → CallFits m op → DefiningFits op
+call_to m op k f = ⊎_elim
+    (λ o. subst DefiningFits o.is ((record { marker = k }, record { of_width = o.fits.0; first = o.fits.1.1.0.0; second = o.fits.1.1.0.1 }), tt))
+    (λ p. subst DefiningFits p.is (callee_to m p.from.0 p.from.1.0 p.from.1.1 k p.fits.0 p.fits.1.1)) f
+
+form_to : (f : Form) (op : Operation) → RestFits f op → DefiningFits op
+form_to (Form.Binary bin) op m = subst DefiningFits m.is ((flag_fits_to bin m.from.0 m.fits.0, record { of_width = m.fits.1.0; first = m.fits.1.1.0; second = m.fits.1.1.1 }), tt)
+form_to Form.Compare op m = subst DefiningFits m.is (record { of_width = m.fits.1.0; first = m.fits.1.1.0; second = m.fits.1.1.1 }, tt)
+form_to Form.Select op m = subst DefiningFits m.is ((m.fits.0, record { of_width = m.fits.1.0; first = m.fits.1.1.0; second = m.fits.1.1.1 }), tt)
+form_to (Form.Convert cast) op m = subst DefiningFits m.is ((m.fits.0, m.fits.1.0, m.fits.1.1), tt)
+form_to Form.Freeze op m = subst DefiningFits m.is (m.fits, tt)
+form_to Form.Extract op m = subst DefiningFits m.is ((m.fits.0, m.fits.1.1), tt)
+form_to Form.Call op m = call_to None op tt m
+form_to Form.Tail op m = call_to (Some (codes "tail")) op (among_first (codes "tail") (codes "notail")) m
+form_to Form.Notail op m = call_to (Some (codes "notail")) op (among_second (codes "tail") (codes "notail")) m
+
+abbrev Formed : Operation → Type 0
+Formed = Made formed FormedFits
+
+by_form : (f : Form) (op : Operation) → RestFits f op → Formed op
+by_form f op m = record { from = (f, op); fits = (tt, m); is = refl }
+
+by_marker : (op : Option (List ℕ) → Operation) → ((m : Option (List ℕ)) → CallFits m (op m)) → (m : Option (List ℕ)) → MarkerFits m → Formed (op m)
+by_marker op f None k = by_form Form.Call (op None) (f None)
+by_marker op f (Some t) k = ⊎_elim
+    (λ e. subst (λ z. Formed (op (Some z))) (sym e) (by_form Form.Tail (op (Some (codes "tail"))) (f (Some (codes "tail")))))
+    (λ e. subst (λ z. Formed (op (Some z))) (sym e) (by_form Form.Notail (op (Some (codes "notail"))) (f (Some (codes "notail")))))
+    (two_words t (codes "tail") (codes "notail") k)
+
+form_from : (op : Operation) → DefiningFits op → Formed op
+form_from (Operation.Binary bin flags w a b) f = by_form (Form.Binary bin) (Operation.Binary bin flags w a b)
+    (record { from = (flags, (w, (a, b))); fits = (flag_fits_from bin flags f.0.0, (f.0.1.of_width, (f.0.1.first, f.0.1.second))); is = refl })
+form_from (Operation.Compare pred w a b) f = by_form Form.Compare (Operation.Compare pred w a b) (record { from = (pred, (w, (a, b))); fits = (tt, (f.0.of_width, (f.0.first, f.0.second))); is = refl })
+form_from (Operation.Select c w a b) f = by_form Form.Select (Operation.Select c w a b) (record { from = (c, (w, (a, b))); fits = (f.0.0, (f.0.1.of_width, (f.0.1.first, f.0.1.second))); is = refl })
+form_from (Operation.Convert cast from a to) f = by_form (Form.Convert cast) (Operation.Convert cast from a to) (record { from = (from, (a, to)); fits = (f.0.0, (f.0.1, f.0.2)); is = refl })
+form_from (Operation.Freeze w a) f = by_form Form.Freeze (Operation.Freeze w a) (record { from = (w, a); fits = f.0; is = refl })
+form_from (Operation.Extract w pair index) f = by_form Form.Extract (Operation.Extract w pair index) (record { from = (w, (pair, index)); fits = (f.0.0, (tt, f.0.1)); is = refl })
+form_from (Operation.Two words fun w a b) f = by_marker (λ m. Operation.Two (words_of m words.groups) fun w a b)
+    (λ m. inr (record {
+      from = (w, (Callee.Two fun, Operation.Two (words_of m words.groups) fun w a b));
+      fits = (f.0.1.of_width, (tt, record { from = ((a, b), words.groups); fits = ((f.0.1.first, f.0.1.second), tt); is = refl }));
+      is = refl;
+    })) words.marker f.0.0.marker
+form_from (Operation.One words fun w a strict) f = by_marker (λ m. Operation.One (words_of m words.groups) fun w a strict)
+    (λ m. inr (record {
+      from = (w, (Callee.One fun, Operation.One (words_of m words.groups) fun w a strict));
+      fits = (f.0.1, (tt, record { from = ((a, strict), words.groups); fits = ((f.0.2, f.0.3), tt); is = refl }));
+      is = refl;
+    })) words.marker f.0.0.marker
+form_from (Operation.Over words over w a b) f = by_marker (λ m. Operation.Over (words_of m words.groups) over w a b)
+    (λ m. inl (record { from = (w, (over, ((a, b), words.groups))); fits = (f.0.1.of_width, (tt, ((f.0.1.first, f.0.1.second), tt))); is = refl })) words.marker f.0.0.marker
+form_from (Operation.Assume words c) f = absurd f.1
+
+pub operation_exact : Exact operation spell.operation DefiningFits op_follow
+operation_exact = fits_exact operation spell.operation Formed DefiningFits op_follow formed_exact
+    (λ op m. subst DefiningFits m.is (form_to m.from.0 m.from.1 m.fits.1)) form_from

@@ -1,0 +1,12 @@
+use Rattle.std.proofs.Common.{◌≡◌, length, drop}
+use Rattle.vfa_ir.specs.Words.{lead_words}
+use Rattle.vfa_read.specs.Headers.{words_among}
+use Rattle.vfa_read.specs.Seen.{all_of}
+use Rattle.vfa_read.proofs.Loops.{with_front}
+use Rattle.vfa_read.proofs.source.Source.lead_words.Given as goal
+
+abbrev pub invariant-list : goal.invariant-list
+invariant-list l = with_front l.list.items (words_among lead_words (drop l.at (all_of l.self))) ≡ words_among lead_words (drop l.from (all_of l.self))
+
+abbrev pub decreases-list : goal.decreases-list
+decreases-list l = length (drop l.at (all_of l.self))

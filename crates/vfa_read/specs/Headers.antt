@@ -1,0 +1,102 @@
+-- The header of a function, and the whole function, as readers (LLVM Language Reference, "Functions").
+use Rattle.std.specs.Prelude.{ℕ, zero, suc, ◌==◌, Bool, true, false, if◌then◌else◌, List, [], ◌∷◌, length, Option, Some, None, Result, Ok, Err, codes}
+use Rattle.vfa_ir.specs.declared.syntax.BasicBlock.{BasicBlock}
+use Rattle.vfa_ir.specs.declared.syntax.Parameter.{Parameter}
+use Rattle.vfa_ir.specs.Grammar.{may_follow_parameters}
+use Rattle.vfa_ir.specs.Lexemes.{Lexeme, local, nameless_local, mark, word}
+use Rattle.vfa_ir.specs.Sentence.{Sentence}
+use Rattle.vfa_ir.specs.Words.{is_among, lead_words, parameter_words}
+use Rattle.vfa_read.specs.Productions.{is_mark, is_any_word, same_state, entry_label, block_behind, further_blocks}
+use Rattle.vfa_read.specs.Readers.{Reader, one, nothing, after, made, choose, skip, ended, many, ◌>>=◌}
+use Rattle.vfa_read.specs.Tables.{the_mark, the_word, local_name, global_name, type_of}
+
+-- words of a list
+abbrev pub word_among : List (List ℕ) → Lexeme → Option (List ℕ)
+word_among texts (word w) = if is_among w texts then Some w else None
+word_among texts _ = None
+
+abbrev pub is_word_among : List (List ℕ) → Lexeme → Bool
+is_word_among texts (word w) = is_among w texts
+is_word_among texts _ = false
+
+unfoldable pub words_among : List (List ℕ) → Reader (List (List ℕ))
+words_among texts = many (is_word_among texts) (λ _. one (word_among texts)) same_state tt
+
+-- a parameter
+abbrev pub starts_name : Lexeme → Bool
+starts_name (local _) = true
+starts_name nameless_local = true
+starts_name _ = false
+
+abbrev pub optional_name : Reader (Option (List ℕ))
+optional_name = choose starts_name (made Some (one local_name)) (nothing None)
+
+abbrev pub parameter_of : ℕ × (List (List ℕ) × Option (List ℕ)) → Parameter
+parameter_of p = record { width = p.0; words = p.1.0; name = p.1.1 }
+
+unfoldable pub parameter : Reader Parameter
+parameter = made parameter_of (after (one type_of) (λ _. after (words_among parameter_words) (λ _. optional_name)))
+
+abbrev pub listed : Parameter × List Parameter → List Parameter
+listed p = p.0 ∷ p.1
+
+unfoldable pub further_parameters : Reader (List Parameter)
+further_parameters = many (is_mark 44) (λ _. skip (the_mark 44) parameter) same_state tt
+
+unfoldable pub parameters : Reader (List Parameter)
+parameters = choose is_any_word (made listed (after parameter (λ _. further_parameters))) (nothing [])
+
+-- what stands between parameters and body, where n parentheses are open
+abbrev pub with_lexeme : Lexeme → Result (List Lexeme × List Lexeme) ℕ → Result (List Lexeme × List Lexeme) ℕ
+with_lexeme l read = read >>= λ p. Ok (l ∷ p.0, p.1)
+
+-- by what a lexeme is there: it opens or closes a parenthesis, stands there, or cannot
+pub data Place : Type 0 where
+  opens : Place
+  closes : Place
+  stands : Place
+  leaves : Place
+
+abbrev pub place_of : Lexeme → Place
+place_of (mark c) =
+    if c == 40 then opens else if c == 41 then closes else if may_follow_parameters (mark c) then stands else leaves
+place_of l = if may_follow_parameters l then stands else leaves
+
+abbrev pub tail_end : ℕ → List Lexeme → Result (List Lexeme × List Lexeme) ℕ
+tail_end n ls = if n == 0 then Ok ([], ls) else Err (length ls)
+
+unfoldable pub tail_from : ℕ → Reader (List Lexeme)
+tail_from n [] = tail_end n []
+tail_from n (l ∷ ls) = elim (place_of l) [
+  | opens ↦ with_lexeme l (tail_from (suc n) ls)
+  | closes ↦ elim n [ zero ↦ Err (length (l ∷ ls)) | suc m ↦ with_lexeme l (tail_from m ls) ]
+  | stands ↦ with_lexeme l (tail_from n ls)
+  | leaves ↦ tail_end n (l ∷ ls)
+]
+
+-- a function
+abbrev pub Header : Type 0
+Header = List (List ℕ) × (ℕ × (List ℕ × List Parameter))
+
+unfoldable pub header : Reader Header
+header = skip (the_word (codes "define")) (after (words_among lead_words) (λ _. after (one type_of) (λ _. after (one global_name) (λ _.
+    skip (the_mark 40) (ended parameters (the_mark 41))))))
+
+abbrev pub Body : Type 0
+Body = BasicBlock × List BasicBlock
+
+unfoldable pub body : Reader Body
+body = skip (the_mark 123) (ended (after (block_behind entry_label) (λ _. further_blocks)) (the_mark 125))
+
+abbrev pub sentence_of : Header × (List Lexeme × Body) → Sentence
+sentence_of p = record {
+  lead = p.0.0;
+  width = p.0.1.0;
+  name = p.0.1.1.0;
+  parameters = p.0.1.1.1;
+  tail = p.1.0;
+  blocks = p.1.1.0 ∷ p.1.1.1;
+}
+
+unfoldable pub sentence : Reader Sentence
+sentence = made sentence_of (after header (λ _. after (tail_from 0) (λ _. body)))

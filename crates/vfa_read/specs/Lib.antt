@@ -1,0 +1,6 @@
+pub mod Headers
+pub mod Productions
+pub mod Readers
+pub mod Resolving
+pub mod Seen
+pub mod Tables

@@ -1,0 +1,100 @@
+//! Names as written: plain, or in quotes.
+
+ghost use Rattle.std.specs.Prelude.{IsTrue, ◌<◌, ◌≡◌, ◌≤◌, [], ◌∷◌, ◌++◌, length, IfOk};
+ghost use Rattle.vfa_ir.specs.Names.{decoded, is_hex_digit, hex_value};
+ghost use Rattle.vfa_ir.specs.TokenLexemes.{written_name as name_written, quoted_name as name_quoted};
+
+use crate::numbers::is_digits;
+use crate::source::{first, without_last};
+use std::alloc::{AllocError, Global};
+use vfa_ir::Name;
+
+#[tactic(auto, unfolding(vfa_ir::specs::Names::is_hex_digit, vfa_ir::specs::Tokens::is_digit))]
+fn is_hexadecimal(digit: u8) -> bool
+    ensures { result ≡ is_hex_digit digit }
+{
+    digit.is_ascii_hexdigit()
+}
+
+/// The value of a hexadecimal digit.
+#[tactic(auto, unfolding(vfa_ir::specs::Names::is_hex_digit, vfa_ir::specs::Names::hex_value, vfa_ir::specs::Tokens::is_digit))]
+fn hexadecimal(digit: u8) -> u8
+    requires { IsTrue (is_hex_digit digit) }
+    ensures value { result ≡ hex_value digit }
+    ensures below { result < 16 }
+{
+    if digit <= b'9' {
+        return digit - b'0';
+    }
+    if digit <= b'F' {
+        return digit - b'A' + 10;
+    }
+    digit - b'a' + 10
+}
+
+/// The byte that a string begins with, and the rest of the string: two hexadecimal digits behind a backslash stand for
+/// one byte, two backslashes for one.
+fn piece<'a>(byte: u8, behind: &'a [u8]) -> (u8, &'a [u8])
+    ensures piece { decoded (byte ∷ behind.now) ≡ result.0 ∷ decoded result.1.now }
+    ensures shorter { length result.1.now ≤ length behind.now }
+{
+    let Some((second, rest)) = first(behind) else {
+        return (byte, behind);
+    };
+    if byte != b'\\' {
+        return (byte, behind);
+    }
+    if second == b'\\' {
+        return (b'\\', rest);
+    }
+    let Some((third, last)) = first(rest) else {
+        return (byte, behind);
+    };
+    if !is_hexadecimal(second) {
+        return (byte, behind);
+    }
+    if !is_hexadecimal(third) {
+        return (byte, behind);
+    }
+    (16 * hexadecimal(second) + hexadecimal(third), last)
+}
+
+/// The bytes that stand so between quotes.
+fn unescaped(alloc: Global, text: &[u8]) -> Result<Vec<u8>, AllocError>
+    ensures { IfOk result (λ v. v.items ≡ decoded text.now) }
+{
+    let mut bytes = Vec::new(alloc);
+    let mut rest = text;
+    'pieces: while let Some((byte, behind)) = first(rest) {
+        let (value, next) = piece(byte, behind);
+        bytes.push(value)?;
+        rest = next;
+    }
+    Ok(bytes)
+}
+
+fn quoted_name(alloc: Global, text: &[u8]) -> Result<Option<Name>, AllocError>
+    ensures { IfOk result (λ o. o ≡ name_quoted (decoded text.now)) }
+{
+    let bytes = unescaped(alloc, text)?;
+    if bytes.is_empty() {
+        return Ok(None);
+    }
+    if is_digits(bytes.as_slice()) {
+        return Ok(None);
+    }
+    Ok(Some(Name(bytes)))
+}
+
+/// The name that is written so, without its sign; none where it is in quotes and empty or digits alone.
+pub fn written_name(alloc: Global, text: &[u8]) -> Result<Option<Name>, AllocError>
+    ensures { IfOk result (λ o. o ≡ name_written text.now) }
+{
+    let Some((sign, behind)) = first(text) else {
+        return Ok(None);
+    };
+    if sign == b'"' {
+        return quoted_name(alloc, without_last(behind));
+    }
+    Ok(Some(Name::of(alloc, text)?))
+}

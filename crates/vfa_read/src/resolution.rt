@@ -1,0 +1,16 @@
+//! From the tree of a function to the function: limits, names and ids.
+
+mod blocks;
+mod definitions;
+mod limits;
+mod literals;
+mod operands;
+mod operations;
+mod phis;
+mod symbols;
+mod table;
+mod terminators;
+mod values;
+
+pub use definitions::symbols_of;
+pub use limits::too_many;

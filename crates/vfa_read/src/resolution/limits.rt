@@ -1,0 +1,94 @@
+//! The limits of the profile.
+
+ghost use Rattle.std.specs.Prelude.{◌≡◌, ◌<◌, ◌+◌, length, filter_map, MatchOption, nat_lt, is_some};
+ghost use Rattle.std.specs.List.{list_any};
+ghost use Rattle.vfa_ir.specs.DefinedNames.{block_results, line_result, value_names};
+ghost use Rattle.vfa_ir.specs.Reads.{cases_of, too_many as tree_has_too_many};
+ghost use Rattle.vfa_read.specs.Resolving.{tree};
+
+use vfa_ir::Kind;
+use vfa_ir::syntax::{BasicBlock, Line, Parameter, Transfer};
+
+const MOST_NAMES: usize = 4096;
+
+const MOST_BLOCKS: usize = 1024;
+
+const MOST_CASES: usize = 1024;
+
+fn has_result(line: &Line) -> bool
+    ensures { result ≡ is_some (line_result line.now) }
+{
+    match line {
+        Line::Phi(_) => true,
+        Line::Plain(instruction) => instruction.result.is_some(),
+    }
+}
+
+/// How many lines have a result.
+fn result_count(lines: &[Line]) -> usize
+    ensures counts { result ≡ length (filter_map line_result lines.now) }
+{
+    let mut count = 0;
+    'lines: for line in lines {
+        if has_result(line) {
+            count += 1;
+        }
+    }
+    count
+}
+
+/// How many names may still come behind those of a block; none where the block has too many.
+fn room_behind(room: usize, block: &BasicBlock) -> Option<usize>
+    ensures { MatchOption result (room < length (block_results block.now)) (λ left. left + length (block_results block.now) ≡ room) }
+{
+    room.checked_sub(result_count(block.lines.as_slice()))
+}
+
+/// Whether there are too many parameters and results.
+fn passes_names(parameters: &[Parameter], blocks: &[BasicBlock]) -> bool
+    ensures { result ≡ nat_lt 4096 (length (value_names (tree parameters.now blocks.now))) }
+{
+    if parameters.len() > MOST_NAMES {
+        return true;
+    }
+    let mut room = MOST_NAMES - parameters.len();
+    'count: for block in blocks {
+        match room_behind(room, block) {
+            Some(left) => room = left,
+            None => return true,
+        }
+    }
+    false
+}
+
+fn has_too_many_cases(block: &BasicBlock) -> bool
+    ensures { result ≡ nat_lt 1024 (cases_of block.now.terminator.transfer) }
+{
+    match &block.terminator.transfer {
+        Transfer::Switch { cases, .. } => cases.as_slice().len() > MOST_CASES,
+        _ => false,
+    }
+}
+
+/// Whether some switch has too many cases.
+fn passes_cases(blocks: &[BasicBlock]) -> bool
+    ensures { result ≡ list_any (λ b. nat_lt 1024 (cases_of b.terminator.transfer)) blocks.now }
+{
+    blocks.iter().any(|block| has_too_many_cases(block))
+}
+
+/// The limit that a function of these parameters and blocks passes first: of names, of blocks, of the cases of a switch.
+pub fn too_many(parameters: &[Parameter], blocks: &[BasicBlock]) -> Option<Kind>
+    ensures { result ≡ tree_has_too_many (tree parameters.now blocks.now) }
+{
+    if passes_names(parameters, blocks) {
+        return Some(Kind::Names);
+    }
+    if blocks.len() > MOST_BLOCKS {
+        return Some(Kind::Blocks);
+    }
+    if passes_cases(blocks) {
+        return Some(Kind::Cases);
+    }
+    None
+}
