@@ -1,0 +1,23 @@
+//! Facts on numbers of a width of 1 to 128 bits: known bits and an arc together, each sharpened by the other.
+#![tactic(auto)]
+
+mod cell;
+mod cell_calls;
+mod decide;
+mod domain;
+mod ends;
+mod fact;
+mod numbers;
+mod order;
+mod partners;
+mod restrict;
+mod sharp;
+mod test;
+
+pub use cell::{Cell, CellEnds, Parts};
+pub use fact::Fact;
+pub use numbers::Numbers;
+pub use test::Test;
+
+#[cfg(test)]
+mod tests;

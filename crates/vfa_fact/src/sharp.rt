@@ -1,0 +1,142 @@
+ghost use Rattle.std.specs.Prelude.{◌≡◌, ◌<◌, ◌^◌};
+ghost use Rattle.std.specs.Option.{option_map};
+ghost use Rattle.vfa_dom.specs.Sets.{meet};
+ghost use Rattle.vfa_fact.specs.Fact.{IsFact};
+ghost use Rattle.vfa_fact.specs.Interval.{interval, joined};
+ghost use Rattle.vfa_fact.specs.Sharp.{sharp_of};
+ghost use Rattle.vfa_word.specs.Numbers.{IsWidth};
+
+use crate::fact::Fact;
+use crate::numbers::Numbers;
+use crate::test::Test;
+use vfa_known::Known;
+use vfa_word::{Word, most};
+use vfa_wrap::Wrapped;
+
+/// The numbers of a set in two parts, the first of which comes before the second.
+fn both_parts(one: Option<Numbers>, two: Option<Numbers>) -> Option<Numbers>
+    ensures { result ≡ joined one two }
+{
+    let Some(low) = one else {
+        return two;
+    };
+    let Some(high) = two else {
+        return one;
+    };
+    Some(Numbers {
+        zeros: low.zeros & high.zeros,
+        ones: low.ones & high.ones,
+        first: low.first,
+        last: high.last,
+    })
+}
+
+impl<const W: u32> Test<W> {
+    ghost use Rattle.vfa_known.specs.Known.{in_known};
+    ghost use Rattle.vfa_wrap.specs.Wrapped.{span_of, in_arc};
+
+    /// The sharp numbers of the cube's members from `low` up to `high`.
+    fn in_cube(&self, low: u128, high: u128) -> Option<Numbers>
+        requires low_fits { low < 2 ^ W }
+        requires high_fits { high < 2 ^ W }
+        requires width { IsWidth W }
+        ensures { result ≡ sharp_of W 0 (meet (interval low high) (in_known W self.now.cube)) }
+    {
+        let first = self.cube.first_at_or_after(low)?;
+        let last = self.cube.last_at_or_before(high)?;
+        if last < first {
+            return None;
+        }
+        // what lies between has the bits of both ends above the highest place where they differ, and any below
+        let turn = ((first ^ last) | 1).ilog2();
+        Some(Numbers {
+            zeros: self.cube.zeros() | (((most::<W>() ^ last) >> turn) << turn),
+            ones: self.cube.ones() | ((first >> turn) << turn),
+            first,
+            last,
+        })
+    }
+
+    /// The same of the numbers that are in the arc `one` too.
+    fn in_one(&self, low: u128, high: u128) -> Option<Numbers>
+        requires low_fits { low < 2 ^ W }
+        requires high_fits { high < 2 ^ W }
+        requires width { IsWidth W }
+        ensures { result ≡ sharp_of W 0 (meet (interval low high) (meet (in_arc W self.now.one) (in_known W self.now.cube))) }
+    {
+        let first = self.one.first().bits();
+        let last = self.one.last().bits();
+        let from = low.max(first);
+        let upto = high.min(last);
+        if first <= last {
+            return self.in_cube(from, upto);
+        }
+        both_parts(self.in_cube(low, upto), self.in_cube(from, high))
+    }
+
+    /// The same of the numbers that are in both arcs too.
+    fn in_two(&self, low: u128, high: u128) -> Option<Numbers>
+        requires low_fits { low < 2 ^ W }
+        requires high_fits { high < 2 ^ W }
+        requires width { IsWidth W }
+        ensures { result ≡ sharp_of W 0
+            (meet (interval low high) (meet (in_arc W self.now.two) (meet (in_arc W self.now.one) (in_known W self.now.cube)))) }
+    {
+        let first = self.two.first().bits();
+        let last = self.two.last().bits();
+        let from = low.max(first);
+        let upto = high.min(last);
+        if first <= last {
+            return self.in_one(from, upto);
+        }
+        both_parts(self.in_one(low, upto), self.in_one(from, high))
+    }
+
+    /// The sharp numbers of the arc's numbers that pass the test.
+    fn within(&self, arc: &Wrapped<W>) -> Option<Numbers>
+        ensures { result ≡ sharp_of W (span_of arc.now).first
+            (meet (in_arc W arc.now) (meet (in_arc W self.now.two) (meet (in_arc W self.now.one) (in_known W self.now.cube)))) }
+    {
+        let first = arc.first().bits();
+        let last = arc.last().bits();
+        if first <= last {
+            return self.in_two(first, last);
+        }
+        both_parts(self.in_two(first, most::<W>()), self.in_two(0, last))
+    }
+}
+
+impl<const W: u32> Fact<W> {
+    ghost use Rattle.vfa_known.specs.Known.{in_known};
+    ghost use Rattle.vfa_wrap.specs.Wrapped.{span_of, in_arc};
+    ghost use Rattle.vfa_fact.specs.Views.{numbers_of, in_test};
+
+    /// The fact with these numbers, which are those of a fact.
+    pub(crate) fn from_numbers(numbers: &Numbers) -> Fact<W>
+        requires width { IsWidth W }
+        requires fact { IsFact W numbers.now }
+        ensures { numbers_of result ≡ numbers.now }
+    {
+        let Some(known) = Known::new(numbers.zeros, numbers.ones) else {
+            unreachable!()
+        };
+        let arc = Wrapped::new(Word::cut(numbers.first), Word::cut(numbers.last));
+        Fact { known, arc }
+    }
+
+    /// The fact of the numbers that agree with `known`, lie in `arc` and pass `test`: their best known bits, and the part
+    /// of `arc` from the first of them to the last, going up from the arc's first number. None exactly where there is none.
+    ///
+    /// At width 8, the multiples of 4 in the arc from 5 to 17, with no test, are the numbers of the fact `000???00` from 8
+    /// to 16.
+    pub fn sharp(known: Known<W>, arc: Wrapped<W>, test: &Test<W>) -> Option<Fact<W>>
+        ensures { option_map numbers_of result
+            ≡ sharp_of W (span_of arc.entry).first (meet (in_known W known.entry) (meet (in_arc W arc.entry) (in_test W test.now))) }
+    {
+        let cube = known.agree(&test.cube)?;
+        let one = test.one;
+        let two = test.two;
+        let numbers = Test { cube, one, two }.within(&arc)?;
+        Some(Fact::from_numbers(&numbers))
+    }
+}
