@@ -1,0 +1,15 @@
+pub mod Meaning
+pub mod Outcomes
+pub mod Refines
+pub mod FirstForm
+pub mod FirstGives
+pub mod FirstReading
+pub mod First
+pub mod Fold
+pub mod Text
+pub mod Words
+pub mod Run
+pub mod Status
+pub mod KnownNames
+pub mod Marks
+pub mod Left
