@@ -6,9 +6,7 @@ use Rattle.vfa_ir.specs.declared.syntax.Parameter.{Parameter}
 use Rattle.vfa_ir.specs.declared.syntax.PhiNode.{PhiNode}
 use Rattle.vfa_ir.specs.declared.syntax.Incoming.{Incoming}
 use Rattle.vfa_ir.specs.declared.syntax.Line.{Line}
-use Rattle.vfa_ir.specs.declared.syntax.Line.TheVariants as Line
 use Rattle.vfa_ir.specs.declared.syntax.PhiPart.{PhiPart}
-use Rattle.vfa_ir.specs.declared.syntax.PhiPart.TheVariants as PhiPart
 use Rattle.vfa_ir.specs.declared.syntax.Operation.{Operation}
 use Rattle.vfa_ir.specs.declared.syntax.Transfer.{Transfer}
 use Rattle.vfa_ir.specs.declared.syntax.BasicBlock.{BasicBlock}

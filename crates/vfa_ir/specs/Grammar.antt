@@ -1,6 +1,6 @@
 -- Which trees are functions of the profile: what each production asks beside its spelling. One width stands for all
 -- types of an instruction, numbers lie in the range of their type, words are those of the language.
-use Rattle.std.specs.Prelude.{◌≡◌, ◌≤◌, ◌<◌, ℕ, ◌+◌, ◌-◌, ◌^◌, ℤ, pos, neg_ℤ, ◌≤ℤ◌, ◌<ℤ◌, List, [], ◌∷◌, length, All, IsTrue, IsSome, Bool, true, false, not, ◌&&◌, ◌||◌, ◌==◌, nat_lt, if◌then◌else◌, Option, Some, None, IfSome, ⊤, bytes_eq, codes}
+use Rattle.std.specs.Prelude.{◌≡◌, ◌≤◌, ℕ, ◌+◌, ◌-◌, ◌^◌, ℤ, pos, neg_ℤ, ◌≤ℤ◌, ◌<ℤ◌, List, [], ◌∷◌, All, IsTrue, IsSome, Bool, true, false, not, ◌&&◌, ◌||◌, ◌==◌, nat_lt, if◌then◌else◌, Option, Some, None, IfSome, ⊤, bytes_eq, codes}
 use Rattle.std.specs.List.{IsDistinct}
 use Rattle.std.specs.Str.Parse.{digits_value}
 use Rattle.vfa_ir.specs.declared.operations.Bin.{Bin}
@@ -11,9 +11,7 @@ use Rattle.vfa_ir.specs.declared.syntax.Attachment.{Attachment}
 use Rattle.vfa_ir.specs.declared.syntax.Parameter.{Parameter}
 use Rattle.vfa_ir.specs.declared.syntax.PhiNode.{PhiNode}
 use Rattle.vfa_ir.specs.declared.syntax.Line.{Line}
-use Rattle.vfa_ir.specs.declared.syntax.Line.TheVariants as Line
 use Rattle.vfa_ir.specs.declared.syntax.PhiPart.{PhiPart}
-use Rattle.vfa_ir.specs.declared.syntax.PhiPart.TheVariants as PhiPart
 use Rattle.vfa_ir.specs.declared.syntax.CallWords.{CallWords}
 use Rattle.vfa_ir.specs.declared.syntax.Operation.{Operation}
 use Rattle.vfa_ir.specs.declared.syntax.Instruction.{Instruction}

@@ -1,6 +1,5 @@
 -- The bytes that a name stands for (LLVM Language Reference, "Identifiers").
-use Rattle.std.specs.Prelude.{ℕ, ◌+◌, ◌-◌, ◌*◌, ◌==◌, ◌&&◌, ◌||◌, Bool, false, nat_le, nat_lt, List, [], ◌∷◌, length, take, drop, if◌then◌else◌}
-use Rattle.std.specs.List.{list_all}
+use Rattle.std.specs.Prelude.{ℕ, ◌+◌, ◌-◌, ◌*◌, ◌==◌, ◌&&◌, ◌||◌, Bool, nat_le, nat_lt, List, [], ◌∷◌, length, take, drop, if◌then◌else◌}
 use Rattle.vfa_ir.specs.Tokens.{is_digit, text_of}
 use Rattle.vfa_ir.specs.declared.tokens.Token.{Token}
 use Rattle.vfa_ir.specs.declared.tokens.TokenKind.{TokenKind}
@@ -40,11 +39,3 @@ written_name bytes t =
 
 abbrev pub token_name : List ℕ → Token → List ℕ
 token_name bytes t = bytes_of_name (written_name bytes t)
-
-abbrev pub is_quoted : List ℕ → Bool
-is_quoted [] = false
-is_quoted (b ∷ _) = b == 34
-
-abbrev pub is_digits : List ℕ → Bool
-is_digits [] = false
-is_digits (b ∷ rest) = list_all is_digit (b ∷ rest)

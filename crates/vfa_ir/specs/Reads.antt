@@ -4,6 +4,7 @@ use Rattle.std.specs.List.{list_any}
 use Rattle.vfa_ir.specs.declared.functions.Function.{Function}
 use Rattle.vfa_ir.specs.declared.functions.Lines.{Lines}
 use Rattle.vfa_ir.specs.declared.reasons.Kind.{Kind}
+use Rattle.vfa_ir.specs.declared.reasons.Outside.{Outside}
 use Rattle.vfa_ir.specs.declared.syntax.Transfer.{Transfer}
 use Rattle.vfa_ir.specs.declared.tokens.Token.{Token}
 use Rattle.vfa_ir.specs.Grammar.{FitsSentence}
@@ -106,3 +107,16 @@ pub record IsUnknown (text : List ℕ) (tokens : List Token) (name : List ℕ) :
   pub kept : too_many sentence ≡ None
   pub distinct : duplicate_of sentence ≡ None
   pub unknown : unknown_of sentence ≡ Some name
+
+-- The text reads as the function within the limits.
+pub record IsAccepted (text : List ℕ) (tokens : List Token) (f : Function) (lines : Lines) : Type 0 where
+  pub reads : ReadsTokens text tokens f lines
+  pub kept : too_many reads.sentence ≡ None
+
+-- The reason why it does not; the other reasons are no matter of the text.
+abbrev pub IsReason : List ℕ → List Token → Outside → Type 0
+IsReason text tokens (Outside.Shape line) = IsShape text tokens line
+IsReason text tokens (Outside.TooMany kind) = IsTooMany text tokens kind
+IsReason text tokens (Outside.Duplicate name) = IsDuplicate text tokens name
+IsReason text tokens (Outside.Unknown name) = IsUnknown text tokens name
+IsReason text tokens _ = ⊥

@@ -18,7 +18,6 @@ use Rattle.vfa_ir.specs.declared.syntax.Written.{Written}
 use Rattle.vfa_ir.specs.declared.syntax.Parameter.{Parameter}
 use Rattle.vfa_ir.specs.declared.syntax.PhiNode.{PhiNode}
 use Rattle.vfa_ir.specs.declared.syntax.Line.{Line}
-use Rattle.vfa_ir.specs.declared.syntax.Line.TheVariants as Line
 use Rattle.vfa_ir.specs.declared.syntax.Operation.{Operation}
 use Rattle.vfa_ir.specs.declared.syntax.Instruction.{Instruction}
 use Rattle.vfa_ir.specs.declared.syntax.Transfer.{Transfer}
