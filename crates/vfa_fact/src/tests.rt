@@ -30,7 +30,7 @@ fn fact<const W: u32>(zeros: u128, ones: u128, first: u128, last: u128) -> Resul
 }
 
 /// The plain numbers of a fact: masks, and ends of the arc.
-fn shown<const W: u32>(fact: &Fact<W>) -> Numbers {
+pub(crate) fn shown<const W: u32>(fact: &Fact<W>) -> Numbers {
     Numbers {
         zeros: fact.known().zeros(),
         ones: fact.known().ones(),

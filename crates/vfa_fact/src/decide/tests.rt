@@ -1,11 +1,14 @@
 ghost use Rattle.vfa_word.specs.Numbers.{IsWidth};
 
-use crate::{Fact, Test};
+use crate::tests::shown;
+use crate::{Fact, Numbers, Test};
+use std::alloc::{AllocError, Global};
 use std::process::Abort;
+use std::test::Fail;
 use vfa_dom::{Domain, SetOf};
 use vfa_ir::Pred;
 use vfa_known::Known;
-use vfa_word::Word;
+use vfa_word::{Word, most};
 use vfa_wrap::Wrapped;
 
 /// The fact of the numbers of an arc.
@@ -17,15 +20,62 @@ fn between<const W: u32>(rt: &impl Abort, first: u128, last: u128) -> Fact<W>
     Fact::sharp(any.known(), arc, &Test::inside(arc)).expect(rt, "an arc has numbers")
 }
 
-/// The fact of width 2 with these masks and ends; None where no number has both.
-fn small(zeros: u128, ones: u128, first: u128, last: u128) -> Option<Fact<2>> {
-    let known = Known::new(zeros, ones)?;
-    let arc = Wrapped::new(Word::cut(first), Word::cut(last));
-    Fact::sharp(known, arc, &Test::inside(arc))
+/// The fact that has these numbers; None where there is none.
+fn fact_of<const W: u32>(numbers: &Numbers) -> Option<Fact<W>>
+    requires { IsWidth W }
+{
+    let known = Known::new(numbers.zeros, numbers.ones)?;
+    let arc = Wrapped::new(Word::cut(numbers.first), Word::cut(numbers.last));
+    let fact = Fact::sharp(known, arc, &Test::inside(arc))?;
+    if shown(&fact) != *numbers {
+        return None;
+    }
+    Some(fact)
 }
 
-/// Whether the comparison of two numbers of width 2 is true.
-fn is_true(pred: Pred, x: Word<2>, y: Word<2>) -> bool {
+/// Adds the facts with these masks.
+fn add_facts<const W: u32>(
+    facts: &mut Vec<Fact<W>>,
+    zeros: u128,
+    ones: u128,
+) -> Result<(), AllocError>
+    requires { IsWidth W }
+{
+    let most = most::<W>();
+    'firsts: for first in 0..=most {
+        'lasts: for last in 0..=most {
+            let numbers = Numbers {
+                zeros,
+                ones,
+                first,
+                last,
+            };
+            if let Some(fact) = fact_of(&numbers) {
+                facts.push(fact)?;
+            }
+        }
+    }
+    Ok(())
+}
+
+/// Each fact of a width, once.
+fn all_facts<const W: u32>(alloc: Global) -> Result<Vec<Fact<W>>, AllocError>
+    requires { IsWidth W }
+{
+    let most = most::<W>();
+    let mut facts = Vec::new(alloc);
+    'zeros: for zeros in 0..=most {
+        'ones: for ones in 0..=most {
+            add_facts(&mut facts, zeros, ones)?;
+        }
+    }
+    Ok(facts)
+}
+
+/// Whether the comparison of two numbers is true.
+fn is_true<const W: u32>(pred: Pred, x: Word<W>, y: Word<W>) -> bool
+    requires { IsWidth W }
+{
     let (a, b) = (x.bits(), y.bits());
     let (c, d) = (x.signed(), y.signed());
     match pred {
@@ -42,35 +92,67 @@ fn is_true(pred: Pred, x: Word<2>, y: Word<2>) -> bool {
     }
 }
 
-/// What the comparison answers, by looking at each pair of members.
-fn decided(pred: Pred, a: &Fact<2>, b: &Fact<2>) -> Option<bool> {
+/// Whether the comparison of `x` with some member of `b` has the answer.
+fn is_met<const W: u32>(pred: Pred, x: Word<W>, b: &Fact<W>, answer: bool) -> bool
+    requires { IsWidth W }
+{
     let mut some = false;
-    let mut some_not = false;
-    for m in 0..4u32 {
-        let x = Word::cut(m as u128);
-        for n in 0..4u32 {
-            let y = Word::cut(n as u128);
-            if a.has(x) && b.has(y) {
-                some |= is_true(pred, x, y);
-                some_not |= !is_true(pred, x, y);
-            }
-        }
+    'numbers: for n in 0..=most::<W>() {
+        let y = Word::cut(n);
+        some |= b.has(y) && is_true(pred, x, y) == answer;
     }
-    match (some, some_not) {
+    some
+}
+
+/// Whether the comparison of some member of `a` with some member of `b` has the answer.
+fn is_found<const W: u32>(pred: Pred, a: &Fact<W>, b: &Fact<W>, answer: bool) -> bool
+    requires { IsWidth W }
+{
+    let mut some = false;
+    'numbers: for n in 0..=most::<W>() {
+        let x = Word::cut(n);
+        some |= a.has(x) && is_met(pred, x, b, answer);
+    }
+    some
+}
+
+/// What the comparison answers, by looking at each pair of members.
+fn decided<const W: u32>(pred: Pred, a: &Fact<W>, b: &Fact<W>) -> Option<bool>
+    requires { IsWidth W }
+{
+    match (is_found(pred, a, b, true), is_found(pred, a, b, false)) {
         (true, false) => Some(true),
         (false, true) => Some(false),
         _ => None,
     }
 }
 
-/// Whether x is a member of `a` and has a partner in `b`.
-fn is_kept(pred: Pred, a: &Fact<2>, b: &Fact<2>, x: Word<2>) -> bool {
-    let mut some = false;
-    for n in 0..4u32 {
-        let y = Word::cut(n as u128);
-        some |= a.has(x) && b.has(y) && is_true(pred, x, y);
+/// The numbers of the fact of the members of `a` that have a partner in `b`, by a list of all numbers of the width, going
+/// up from the first number of the arc of `a`.
+fn kept<const W: u32>(pred: Pred, a: &Fact<W>, b: &Fact<W>) -> Option<Numbers>
+    requires { IsWidth W }
+{
+    let most = most::<W>();
+    let mut found: Option<Numbers> = None;
+    'steps: for step in 0..=most {
+        let x = a.arc().first().add(Word::cut(step));
+        let bits = x.bits();
+        if a.has(x) && is_met(pred, x, b, true) {
+            let before = found.unwrap_or(Numbers {
+                zeros: most,
+                ones: most,
+                first: bits,
+                last: bits,
+            });
+            found = Some(Numbers {
+                zeros: before.zeros & (most ^ bits),
+                ones: before.ones & bits,
+                first: before.first,
+                last: bits,
+            });
+        }
     }
-    some
+    found
 }
 
 const PREDS: [Pred; 10] = [
@@ -86,39 +168,35 @@ const PREDS: [Pred; 10] = [
     Pred::Sle,
 ];
 
-/// Compares two facts of width 2 by each predicate with lists of members. A restriction may keep more numbers than have
-/// partners, and none less; its ends are kept.
-fn compare_with_lists(rt: &impl Abort, a: &Fact<2>, b: &Fact<2>) {
-    for pred in PREDS {
+/// Compares what the ten predicates give at two facts with lists of members.
+fn compare_with_lists<const W: u32>(rt: &impl Abort, a: &Fact<W>, b: &Fact<W>)
+    requires { IsWidth W }
+{
+    'predicates: for pred in PREDS {
         assert!(rt; Fact::decide(pred, a, b) == decided(pred, a, b));
-        let rest = a.restrict(pred, b);
-        for n in 0..4u32 {
-            let x = Word::cut(n as u128);
-            if is_kept(pred, a, b, x) {
-                assert!(rt; rest.expect(rt, "some number is kept").has(x));
-            }
-        }
-        if let Some(rest) = rest {
-            assert!(rt; is_kept(pred, a, b, rest.arc().first()));
-            assert!(rt; is_kept(pred, a, b, rest.arc().last()));
-        }
+        let rest = a.restrict(pred, b).map(|fact| shown(&fact));
+        assert!(rt; rest == kept(pred, a, b));
     }
 }
 
-/// The facts of width 2, some of them several times.
-fn nth(n: u128) -> Option<Fact<2>> {
-    small(n % 4, n / 4 % 4, n / 16 % 4, n / 64 % 4)
+/// Compares what the predicates give at all pairs of the facts, of which there are `count`.
+fn compare_pairs<const W: u32>(rt: &impl Abort, facts: &[Fact<W>], count: usize)
+    requires { IsWidth W }
+{
+    assert_eq!(rt; facts.len(), count);
+    'left: for a in facts {
+        'right: for b in facts {
+            compare_with_lists(rt, a, b);
+        }
+    }
 }
 
 #[test]
-fn all_facts_of_two_bits(rt: HostRuntime) {
-    for m in 0..256u32 {
-        for n in 0..256u32 {
-            if let (Some(a), Some(b)) = (nth(m as u128), nth(n as u128)) {
-                compare_with_lists(&rt, &a, &b);
-            }
-        }
-    }
+fn all_facts_of_small_widths(rt: HostRuntime) -> Result<(), Fail> {
+    compare_pairs(&rt, &all_facts::<1>(rt.alloc())?, 3);
+    compare_pairs(&rt, &all_facts::<2>(rt.alloc())?, 17);
+    compare_pairs(&rt, &all_facts::<3>(rt.alloc())?, 115);
+    Ok(())
 }
 
 #[test]
