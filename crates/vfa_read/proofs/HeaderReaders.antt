@@ -221,10 +221,27 @@ FurtherFit = FitsFrom {S = Unit {0}} (λ _. FitsParameter) same_state tt
 abbrev further_follow : List Parameter → Lexeme → Bool
 further_follow = follow_many (is_mark 44) parameter_follow
 
+further_item_exact : (s : Unit {0}) → Exact (skip (the_mark 44) parameter) (λ p. mark 44 ∷ spell.parameter p) FitsParameter parameter_follow
+further_item_exact s = skip_exact (the_mark 44) (mark 44) parameter spell.parameter FitsParameter parameter_follow (mark_exact 44) parameter_exact
+
 further_exact : Exact further_parameters (flat_map (λ p. mark 44 ∷ spell.parameter p)) FurtherFit further_follow
 unfolding further_parameters
-further_exact = many_exact (is_mark 44) (λ _. skip (the_mark 44) parameter) same_state (λ p. mark 44 ∷ spell.parameter p) (λ _. FitsParameter) parameter_follow
-    (λ _. skip_exact (the_mark 44) (mark 44) parameter spell.parameter FitsParameter parameter_follow (mark_exact 44) parameter_exact) further_begins comma_joins tt
+further_exact = many_exact (is_mark 44) (λ _. skip (the_mark 44) parameter) same_state (λ p. mark 44 ∷ spell.parameter p) (λ _. FitsParameter) parameter_follow further_item_exact further_begins comma_joins tt
+
+pub parameters_done : (ts : List Lexeme) → next_passes (is_mark 44) ts ≡ false → further_parameters ts ≡ Ok ([], ts)
+unfolding further_parameters
+parameters_done ts t = many_done (is_mark 44) (λ _. skip (the_mark 44) parameter) same_state (λ p. mark 44 ∷ spell.parameter p) (λ _. FitsParameter) parameter_follow further_item_exact further_begins comma_joins tt ts t
+
+pub parameters_item : (ts rest : List Lexeme) (x : Parameter) → next_passes (is_mark 44) ts ≡ true → skip (the_mark 44) parameter ts ≡ Ok (x, rest) → further_parameters ts ≡ (further_parameters rest >>= λ q. Ok (x ∷ q.0, q.1))
+unfolding further_parameters
+parameters_item ts rest x t e = many_item (is_mark 44) (λ _. skip (the_mark 44) parameter) same_state (λ p. mark 44 ∷ spell.parameter p) (λ _. FitsParameter) parameter_follow further_item_exact further_begins comma_joins tt ts rest x t e
+
+pub parameters_bad : (ts : List Lexeme) (k : ℕ) → next_passes (is_mark 44) ts ≡ true → skip (the_mark 44) parameter ts ≡ Err k → further_parameters ts ≡ Err k
+unfolding further_parameters
+parameters_bad ts k t e = many_bad (is_mark 44) (λ _. skip (the_mark 44) parameter) same_state (λ p. mark 44 ∷ spell.parameter p) (λ _. FitsParameter) parameter_follow further_item_exact further_begins comma_joins tt ts k t e
+
+pub parameter_shorter : (ts rest : List Lexeme) (x : Parameter) → skip (the_mark 44) parameter ts ≡ Ok (x, rest) → length rest < length ts
+parameter_shorter ts rest x e = shorter (is_mark 44) (λ _. skip (the_mark 44) parameter) same_state (λ p. mark 44 ∷ spell.parameter p) (λ _. FitsParameter) parameter_follow further_item_exact further_begins comma_joins tt ts rest x e
 
 abbrev Listed : Type 0
 Listed = Parameter × List Parameter

@@ -1,4 +1,6 @@
+mod Accepted
 mod Attached
+mod Behind
 mod BinaryReaders
 mod BlockLines
 mod BlockReaders
@@ -10,7 +12,10 @@ mod Exact
 mod FitsEach
 mod FormReaders
 mod HeaderReaders
+mod KeptLimits
+mod LastLines
 mod LeafReaders
+mod LineNumbers
 mod LineReaders
 mod LiteralBits
 mod Loops
@@ -20,12 +25,17 @@ mod NumberRanges
 mod OperationReaders
 mod Places
 mod Ranges
+mod Reasons
 mod SentenceReader
 mod Starts
 mod Strict
 mod SwitchReaders
 mod SymbolPlaces
+mod TailPlaces
 mod TailReader
+mod TokenCounts
+mod TreeParts
+mod TreeReader
 mod Unknowns
 mod WholeBlocks
 mod Words

@@ -1,5 +1,5 @@
 -- Reading a whole function is exact, so at most one tree is spelled by a list of lexemes.
-use Rattle.std.proofs.Common.{◌≡◌, ℕ, suc, ◌<◌, Bool, true, false, ◌&&◌, List, [], ◌∷◌, ◌++◌, flat_map, length, take, Option, Some, None, Ok, Err, ◌⊎◌, inl, inr, IsTrue, IsSome, refl, sym, ap, ◌∙◌, subst, append_assoc, append-nil, length-append, arith, Result}
+use Rattle.std.proofs.Common.{◌≡◌, ℕ, zero, suc, ◌+◌, ◌<◌, Bool, true, false, ◌&&◌, List, [], ◌∷◌, ◌++◌, flat_map, length, take, Option, Some, None, Ok, Err, ◌⊎◌, inl, inr, IsTrue, IsSome, refl, sym, ap, ◌∙◌, subst, append_assoc, append-nil, length-append, arith, Result}
 use Rattle.std.specs.List.{AllByRecursion}
 use Rattle.std.proofs.Math.Seq.{take-append_seam}
 use Rattle.std.proofs.lemmas.List.Elements.{recursion_from_All, All-from_recursion}
@@ -13,7 +13,7 @@ use Rattle.vfa_read.specs.Headers.{Header, header, tail_from, Body, body, senten
 use Rattle.vfa_read.specs.Productions.{same_state, entry_label, block_behind, further_blocks}
 use Rattle.vfa_read.specs.Readers.{Reader, after, ended}
 use Rattle.vfa_read.specs.Tables.{the_mark}
-use Rattle.vfa_read.proofs.Exact.{Exact, Made, anything, may, may_anything, ok_value, ok_rest, after_exact, after_exact_with, made_exact, skip_exact, ended_exact, fits_exact}
+use Rattle.vfa_read.proofs.Exact.{Exact, Stops, Made, anything, may, may_anything, ok_value, ok_rest, after_exact, after_exact_with, made_exact, skip_exact, ended_exact, fits_exact}
 use Rattle.vfa_read.proofs.HeaderReaders.{HeaderFits, header_spelling, header_exact}
 use Rattle.vfa_read.proofs.LeafReaders.{mark_exact}
 use Rattle.vfa_read.proofs.LineReaders.{last_any}
@@ -26,7 +26,7 @@ use Rattle.vfa_read.proofs.WholeBlocks.{LabelledFits, block_follow, blocks_follo
 abbrev FurtherFit : List BasicBlock → Type 0
 FurtherFit = FitsFrom {S = Unit {0}} (λ _. LabelledFits) same_state tt
 
-abbrev BodyFits : Body → Type 0
+abbrev pub BodyFits : Body → Type 0
 BodyFits p = EntryFits p.0 × FurtherFit p.1
 
 last_brace : (bs : List BasicBlock) → blocks_follow bs (mark 125) ≡ true
@@ -82,10 +82,10 @@ blocks_exact : Exact blocks (λ p. spell.block p.0 ++ flat_map spell.block p.1) 
 blocks_exact = after_exact_with (block_behind entry_label) (λ _. further_blocks) spell.block EntryFits block_follow (λ _ bs. flat_map spell.block bs) (λ _ bs. FurtherFit bs) (λ _ bs. blocks_follow bs) body_follow
     entry_exact (λ _ _. further_exact) (λ b bs rest f g m. body_joins b bs rest g m) body_second body_both
 
-abbrev body_spelling : Body → List Lexeme
+abbrev pub body_spelling : Body → List Lexeme
 body_spelling p = mark 123 ∷ ((spell.block p.0 ++ flat_map spell.block p.1) ++ (mark 125 ∷ []))
 
-body_exact : Exact body body_spelling BodyFits anything
+pub body_exact : Exact body body_spelling BodyFits anything
 unfolding body
 body_exact = skip_exact (the_mark 123) (mark 123) (ended blocks (the_mark 125)) (λ p. (spell.block p.0 ++ flat_map spell.block p.1) ++ (mark 125 ∷ [])) BodyFits anything (mark_exact 123)
     (ended_exact blocks (the_mark 125) (mark 125) (λ p. spell.block p.0 ++ flat_map spell.block p.1) BodyFits (λ p. body_follow p.0 p.1) blocks_exact (mark_exact 125) (λ p f. brace_follows p.0 p.1))
@@ -194,39 +194,66 @@ stops_at found front b rest e begins bad = subst (λ z. StopsAt z (length front)
 abbrev pub Reading : List Lexeme → Type 0
 Reading found = ((s : Sentence) × IsSentence found s) ⊎ (((place : ℕ) × StopsAt found place) ⊎ IsUnfinished found)
 
-read_some : (found : List Lexeme) (s : Sentence) (rest : List Lexeme) → sentence found ≡ Ok (s, rest) → Reading found
-read_some found s [] e = inl (s, record { fits = sentence_exact.fits found [] s e; spelled = sym (append-nil (spell.spelling s)) ∙ sym (sentence_exact.sound found [] s e) })
-read_some found s (l ∷ ls) e =
+pub stops_behind : (found : List Lexeme) (s : Sentence) (l : Lexeme) (ls : List Lexeme) → sentence found ≡ Ok (s, l ∷ ls) → StopsAt found (length (spell.spelling s))
+stops_behind found s l ls e =
     let fits = sentence_exact.fits found (l ∷ ls) s e in
     let bad : BeginsSentence (spell.spelling s ++ (l ∷ [])) → ⊥ = λ x. (
     let here = sentence_exact.again s (l ∷ x.rest) fits refl in
     let no : [] ≡ l ∷ x.rest = ok_rest (x.sentence, []) (s, l ∷ x.rest) (sym (begun (spell.spelling s) l x) ∙ here) in
     cc) in
-    inr (inl (
-      length (spell.spelling s),
-      stops_at found (spell.spelling s) l ls (sentence_exact.sound found (l ∷ ls) s e)
-          (record { sentence = s; rest = []; is = record { fits = fits; spelled = sym (append-nil (spell.spelling s)) } }) bad,
-    ))
+    stops_at found (spell.spelling s) l ls (sentence_exact.sound found (l ∷ ls) s e)
+    (record { sentence = s; rest = []; is = record { fits = fits; spelled = sym (append-nil (spell.spelling s)) } }) bad
+
+pub is_sentence : (found : List Lexeme) (s : Sentence) → sentence found ≡ Ok (s, []) → IsSentence found s
+is_sentence found s e = record { fits = sentence_exact.fits found [] s e; spelled = sym (append-nil (spell.spelling s)) ∙ sym (sentence_exact.sound found [] s e) }
+
+read_some : (found : List Lexeme) (s : Sentence) (rest : List Lexeme) → sentence found ≡ Ok (s, rest) → Reading found
+read_some found s [] e = inl (s, is_sentence found s e)
+read_some found s (l ∷ ls) e = inr (inl (length (spell.spelling s), stops_behind found s l ls e))
+
+-- the lexemes before the one at which reading stops, and those from it on
+abbrev Stopped : List Lexeme → ℕ → Type 0
+Stopped found n = Stops sentence spell.spelling FitsSentence found n
+
+no_back : (back : List Lexeme) → length back ≡ 0 → back ≡ []
+no_back [] e = refl
+no_back (b ∷ rest) e = absurd (omega arith)
+
+pub unfinished : (found : List Lexeme) → sentence found ≡ Err 0 → IsUnfinished found
+unfinished found e =
+    let c : Stopped found 0 = sentence_exact.stops found 0 e in
+    let whole : found ≡ c.front = c.parts ∙ ap (λ z. c.front ++ z) (no_back c.back c.left) ∙ append-nil c.front in
+    record {
+      begins = subst BeginsSentence (sym whole) (record { sentence = c.value; rest = c.more; is = record { fits = c.fits; spelled = c.viable } });
+      unfinished = λ s is. ok_err (sym (read_whole found s is) ∙ e);
+    }
+
+pub stops_before : (found : List Lexeme) (n place : ℕ) → place + suc n ≡ length found → sentence found ≡ Err (suc n) → StopsAt found place
+stops_before found n place size e = by_back c.back refl
+  where
+    c : Stopped found (suc n)
+    c = sentence_exact.stops found (suc n) e
+
+    by_back : (back : List Lexeme) → c.back ≡ back → StopsAt found place
+    by_back [] q =
+        let none : length c.back ≡ 0 = ap length q in
+        let left : length c.back ≡ suc n = c.left in
+        absurd (omega arith)
+    by_back (b ∷ rest) q =
+        let bad : BeginsSentence (c.front ++ (b ∷ [])) → ⊥ = λ x. ok_err (sym (begun c.front b x) ∙ c.firm b rest x.rest q) in
+        let whole : length found ≡ length (c.front ++ c.back) = ap length c.parts in
+        let left : length c.back ≡ suc n = c.left in
+        let here : length c.front ≡ place = omega (arith, length-append c.front c.back) in
+        subst (StopsAt found) here (stops_at found c.front b rest (c.parts ∙ ap (λ z. c.front ++ z) q)
+        (record { sentence = c.value; rest = c.more; is = record { fits = c.fits; spelled = c.viable } }) bad)
 
 read_none : (found : List Lexeme) (n : ℕ) → sentence found ≡ Err n → Reading found
-read_none found n e = by_back (sentence_exact.stops found n e).back refl
-  where
-    by_back : (back : List Lexeme) → (sentence_exact.stops found n e).back ≡ back → Reading found
-    by_back [] q =
-        let c = sentence_exact.stops found n e in
-        let whole : found ≡ c.front = c.parts ∙ ap (λ z. c.front ++ z) q ∙ append-nil c.front in
-        inr (inr (record {
-          begins = subst BeginsSentence (sym whole) (record { sentence = c.value; rest = c.more; is = record { fits = c.fits; spelled = c.viable } });
-          unfinished = λ s is. ok_err (sym (read_whole found s is) ∙ e);
-        }))
-    by_back (b ∷ rest) q =
-        let c = sentence_exact.stops found n e in
-        let bad : BeginsSentence (c.front ++ (b ∷ [])) → ⊥ = λ x. ok_err (sym (begun c.front b x) ∙ c.firm b rest x.rest q) in
-        inr (inl (
-          length c.front,
-          stops_at found c.front b rest (c.parts ∙ ap (λ z. c.front ++ z) q)
-              (record { sentence = c.value; rest = c.more; is = record { fits = c.fits; spelled = c.viable } }) bad,
-        ))
+read_none found zero e = inr (inr (unfinished found e))
+read_none found (suc n) e =
+    let c : Stopped found (suc n) = sentence_exact.stops found (suc n) e in
+    let whole : length found ≡ length (c.front ++ c.back) = ap length c.parts in
+    let left : length c.back ≡ suc n = c.left in
+    inr (inl (length c.front, stops_before found n (length c.front) (omega (arith, length-append c.front c.back)) e))
 
 pub reading_of : (found : List Lexeme) → Reading found
 reading_of found = by_read (sentence found) refl

@@ -1,10 +1,12 @@
 -- Reading what stands between the parameters and the body of a function is exact.
-use Rattle.std.proofs.Common.{◌≡◌, ℕ, zero, suc, ◌+◌, ◌-◌, Bool, true, false, not, ◌&&◌, ◌==◌, nat_lt, List, [], ◌∷◌, ◌++◌, replicate, length, Result, Ok, Err, IsTrue, refl, sym, ap, ◌∙◌, subst, arith, eqb-true, add-one, true≢false}
+use Rattle.std.proofs.Common.{◌≡◌, ℕ, zero, suc, ◌+◌, ◌-◌, Bool, true, false, not, ◌&&◌, ◌==◌, nat_lt, List, [], ◌∷◌, ◌++◌, replicate, length, if◌then◌else◌, Option, Some, None, Result, Ok, Err, IsTrue, refl, sym, ap, ◌∙◌, subst, arith, eqb-true, add-one, true≢false}
 use Rattle.std.specs.List.{AllByRecursion}
 use Rattle.std.proofs.lemmas.Bool.Decides.{nat_tests}
 use Rattle.vfa_ir.specs.Lexemes.{Lexeme, local, global, label, nameless_local, nameless_global, nameless_label, metadata, group, number, mark, word, string, other}
 use Rattle.vfa_ir.specs.Grammar.{may_follow_parameters, is_balanced}
 use Rattle.vfa_read.specs.Headers.{Place, opens, closes, stands, leaves, place_of, with_lexeme, tail_end, tail_from}
+use Rattle.vfa_read.specs.Readers.{next_passes}
+use Rattle.vfa_read.specs.Trees.{open_behind}
 use Rattle.vfa_read.proofs.Exact.{Exact, Stops, may, made_err, ok_value, ok_rest}
 use Rattle.vfa_read.proofs.Words.{and_parts}
 
@@ -255,3 +257,68 @@ tail_exact n = record {
   some = closing n;
   some_fits = closing_fits n;
 }
+
+-- one lexeme after another, by how many parentheses are open
+
+none_some : {n : ℕ} → ◌≡◌ {A = Option ℕ} None (Some n) → ⊥
+none_some e = cc
+
+some_same : {n m : ℕ} → ◌≡◌ {A = Option ℕ} (Some n) (Some m) → n ≡ m
+some_same e = cc
+
+abbrev Next : ℕ → Lexeme → List Lexeme → Option ℕ → Type 0
+Next n l ls None = tail_from n (l ∷ ls) ≡ Err (suc (length ls))
+Next n l ls (Some m) = tail_from n (l ∷ ls) ≡ with_lexeme l (tail_from m ls)
+
+next_mark : (c n : ℕ) (ls : List Lexeme) → may_follow_parameters (mark c) ≡ true → Next n (mark c) ls (open_behind n (mark c))
+next_mark c n ls f = go (c == 40) refl (c == 41) refl
+  where
+    closes_by : (n : ℕ) → (c == 40) ≡ false → (c == 41) ≡ true → Next n (mark c) ls (if n == 0 then None else Some (n - 1))
+    closes_by zero a b = step_closed (mark c) ls (rw (a, b) refl)
+    closes_by (suc m) a b =
+        let z = not_zero m in
+        let less : suc m - 1 ≡ m = omega arith in
+        let e : (if suc m == 0 then None else Some (suc m - 1)) ≡ Some m = rw (z, less) refl in
+        subst (Next (suc m) (mark c) ls) (sym e) (step_closes (mark c) ls m (rw (a, b) refl))
+
+    go : (a : Bool) → (c == 40) ≡ a → (b : Bool) → (c == 41) ≡ b → Next n (mark c) ls (open_behind n (mark c))
+    go true a b q =
+        let e : open_behind n (mark c) ≡ Some (n + 1) = rw a refl in
+        subst (Next n (mark c) ls) (sym e) (step_opens (mark c) ls n (rw a refl) ∙ ap (λ z. with_lexeme (mark c) (tail_from z ls)) (sym (add-one n)))
+    go false a true b =
+        let e : open_behind n (mark c) ≡ (if n == 0 then None else Some (n - 1)) = rw (a, b) refl in
+        subst (Next n (mark c) ls) (sym e) (closes_by n a b)
+    go false a false b =
+        let e : open_behind n (mark c) ≡ Some n = rw (a, b) refl in
+        subst (Next n (mark c) ls) (sym e) (step_stands (mark c) ls n (rw (a, b, f) refl))
+
+next : (l : Lexeme) (n : ℕ) (ls : List Lexeme) → may_follow_parameters l ≡ true → Next n l ls (open_behind n l)
+next (local x) n ls f = step_stands (local x) ls n refl
+next (global x) n ls f = step_stands (global x) ls n refl
+next (label x) n ls f = step_stands (label x) ls n refl
+next nameless_local n ls f = step_stands nameless_local ls n refl
+next nameless_global n ls f = step_stands nameless_global ls n refl
+next nameless_label n ls f = step_stands nameless_label ls n refl
+next (metadata x) n ls f = cc
+next (group x) n ls f = step_stands (group x) ls n refl
+next (number x) n ls f = step_stands (number x) ls n refl
+next (word x) n ls f = step_stands (word x) ls n refl
+next string n ls f = step_stands string ls n refl
+next (mark c) n ls f = next_mark c n ls f
+next other n ls f = cc
+
+pub tail_more : (l : Lexeme) (n m : ℕ) (ls : List Lexeme) → may_follow_parameters l ≡ true → open_behind n l ≡ Some m → tail_from n (l ∷ ls) ≡ with_lexeme l (tail_from m ls)
+tail_more l n m ls f e = subst (Next n l ls) e (next l n ls f)
+
+pub tail_closed : (l : Lexeme) (n : ℕ) (ls : List Lexeme) → may_follow_parameters l ≡ true → open_behind n l ≡ None → tail_from n (l ∷ ls) ≡ Err (suc (length ls))
+tail_closed l n ls f e = subst (Next n l ls) e (next l n ls f)
+
+pub tail_done : (ts : List Lexeme) (n : ℕ) → next_passes may_follow_parameters ts ≡ false → tail_from n ts ≡ tail_end n ts
+tail_done [] n e = no_more n
+tail_done (l ∷ ls) n e = by_place (place_of l) refl (says l)
+  where
+    by_place : (p : Place) → place_of l ≡ p → Says l p → tail_from n (l ∷ ls) ≡ tail_end n (l ∷ ls)
+    by_place opens p (says_opens a h) = absurd (true≢false (sym a ∙ e))
+    by_place closes p (says_closes a h) = absurd (true≢false (sym a ∙ e))
+    by_place stands p (says_stands a h) = absurd (true≢false (sym a ∙ e))
+    by_place leaves p (says_leaves a) = step_leaves l ls n p

@@ -4,3 +4,4 @@ pub mod Readers
 pub mod Resolving
 pub mod Seen
 pub mod Tables
+pub mod Trees

@@ -1,9 +1,11 @@
 //! Readers of blocks.
 
-ghost use Rattle.std.specs.Prelude.{◌≡◌, drop};
+ghost use Rattle.std.specs.Prelude.{◌≡◌, ◌∷◌, drop};
+ghost use Rattle.vfa_read.specs.Headers.{body};
 ghost use Rattle.vfa_read.specs.Productions.{starts_label, written_label, entry_label, block_behind, further_blocks};
-ghost use Rattle.vfa_read.specs.Readers.{Gives, next_passes};
+ghost use Rattle.vfa_read.specs.Readers.{Gives, made, next_passes};
 ghost use Rattle.vfa_read.specs.Seen.{all_of};
+ghost use Rattle.vfa_read.specs.Trees.{blocks_of};
 
 use crate::source::{Seen, Source};
 use crate::stops::Stop;
@@ -41,7 +43,7 @@ impl<'a> Source<'a> {
 
     /// The first block, which may lack a label.
     #[tactic(auto, unfolding(crate::specs::Productions::block_behind))]
-    pub fn entry_block(&self, alloc: Global, at: usize) -> Result<(BasicBlock, usize), Stop>
+    fn entry_block(&self, alloc: Global, at: usize) -> Result<(BasicBlock, usize), Stop>
         ensures { Gives (all_of self.now) result (block_behind entry_label (drop at (all_of self.now))) }
     {
         let (label, at) = self.entry_label(alloc, at)?;
@@ -74,15 +76,17 @@ impl<'a> Source<'a> {
         ))
     }
 
-    /// The blocks behind the first one.
-    pub fn further_blocks(
+    /// The first block and those behind it.
+    fn blocks_behind(
         &self,
         alloc: Global,
+        first: BasicBlock,
         from: usize,
     ) -> Result<(Items<BasicBlock>, usize), Stop>
-        ensures { Gives (all_of self.now) result (further_blocks (drop from (all_of self.now))) }
+        ensures { Gives (all_of self.now) result (made (λ more. first ∷ more) further_blocks (drop from (all_of self.now))) }
     {
         let mut list = Vec::new(alloc);
+        list.push(first)?;
         let mut at = from;
         'list: while self.starts_label(at) {
             let (block, next) = self.labelled_block(alloc, at)?;
@@ -90,5 +94,17 @@ impl<'a> Source<'a> {
             at = next;
         }
         Ok((Items(list), at))
+    }
+
+    /// The body of a function: its blocks in braces.
+    #[tactic(auto, unfolding(crate::specs::Headers::body))]
+    pub fn body(&self, alloc: Global, at: usize) -> Result<(Items<BasicBlock>, usize), Stop>
+        ensures { Gives (all_of self.now) result (made blocks_of body (drop at (all_of self.now))) }
+    {
+        let at = self.mark(at, b'{')?;
+        let (first, at) = self.entry_block(alloc, at)?;
+        let (blocks, at) = self.blocks_behind(alloc, first, at)?;
+        let at = self.mark(at, b'}')?;
+        Ok((blocks, at))
     }
 }

@@ -1,10 +1,12 @@
 //! Readers of the header of a function.
 
-ghost use Rattle.std.specs.Prelude.{◌≡◌, drop};
+ghost use Rattle.std.specs.Prelude.{◌≡◌, ◌∷◌, drop};
 ghost use Rattle.vfa_ir.specs.Words.{is_among, lead_words as words_of_lead, parameter_words as words_of_parameter};
-ghost use Rattle.vfa_read.specs.Headers.{word_among, is_word_among, words_among, starts_name, optional_name, parameter};
-ghost use Rattle.vfa_read.specs.Readers.{Gives, one, next_passes};
+ghost use Rattle.vfa_read.specs.Headers.{word_among, is_word_among, words_among, starts_name, optional_name, parameter, further_parameters, parameters, header};
+ghost use Rattle.vfa_read.specs.Readers.{Gives, made, skip, one, next_passes};
 ghost use Rattle.vfa_read.specs.Seen.{all_of};
+ghost use Rattle.vfa_read.specs.Tables.{the_mark};
+ghost use Rattle.vfa_read.specs.Trees.{header_of};
 
 use crate::leaves::same;
 use crate::source::{Seen, Source};
@@ -12,6 +14,19 @@ use crate::stops::Stop;
 use std::alloc::Global;
 use vfa_ir::syntax::Parameter;
 use vfa_ir::{Items, Name};
+
+/// What stands before the tail of a function.
+#[derive(Drop)]
+pub struct FunctionHeader {
+    /// The words between `define` and the type of the result.
+    pub lead: Items<Name>,
+    /// The width of the result.
+    pub width: u32,
+    /// The name of the function.
+    pub name: Name,
+    /// The parameters.
+    pub parameters: Items<Parameter>,
+}
 
 /// Whether a word may stand between `define` and the type of the result.
 fn is_lead_word(text: &[u8]) -> bool
@@ -195,5 +210,68 @@ impl<'a> Source<'a> {
         let (words, at) = self.attributes(alloc, at)?;
         let (name, at) = self.optional_name(alloc, at)?;
         Ok((Parameter { width, words, name }, at))
+    }
+
+    /// `, T %name`
+    fn further_parameter(&self, alloc: Global, at: usize) -> Result<(Parameter, usize), Stop>
+        ensures { Gives (all_of self.now) result (skip (the_mark 44) parameter (drop at (all_of self.now))) }
+    {
+        let at = self.mark(at, b',')?;
+        self.parameter(alloc, at)
+    }
+
+    /// A parameter and those behind it.
+    fn parameters_behind(
+        &self,
+        alloc: Global,
+        first: Parameter,
+        from: usize,
+    ) -> Result<(Items<Parameter>, usize), Stop>
+        ensures { Gives (all_of self.now) result (made (λ more. first ∷ more) further_parameters (drop from (all_of self.now))) }
+    {
+        let mut list = Vec::new(alloc);
+        list.push(first)?;
+        let mut at = from;
+        'list: while self.has_mark(at, b',') {
+            let (parameter, next) = self.further_parameter(alloc, at)?;
+            list.push(parameter)?;
+            at = next;
+        }
+        Ok((Items(list), at))
+    }
+
+    /// The parameters of a function.
+    #[tactic(auto, unfolding(crate::specs::Headers::parameters))]
+    fn parameters(&self, alloc: Global, at: usize) -> Result<(Items<Parameter>, usize), Stop>
+        ensures { Gives (all_of self.now) result (parameters (drop at (all_of self.now))) }
+    {
+        if self.has_any_word(at) {
+            let (first, at) = self.parameter(alloc, at)?;
+            return self.parameters_behind(alloc, first, at);
+        }
+        Ok((Items(Vec::new(alloc)), at))
+    }
+
+    /// The header of a function.
+    #[tactic(auto, unfolding(crate::specs::Headers::header))]
+    pub fn header(&self, alloc: Global, at: usize) -> Result<(FunctionHeader, usize), Stop>
+        ensures { Gives (all_of self.now) result (made header_of header (drop at (all_of self.now))) }
+    {
+        let at = self.word(at, b"define")?;
+        let (lead, at) = self.lead_words(alloc, at)?;
+        let (width, at) = self.width(at)?;
+        let (name, at) = self.global(alloc, at)?;
+        let at = self.mark(at, b'(')?;
+        let (parameters, at) = self.parameters(alloc, at)?;
+        let at = self.mark(at, b')')?;
+        Ok((
+            FunctionHeader {
+                lead,
+                width,
+                name,
+                parameters,
+            },
+            at,
+        ))
     }
 }

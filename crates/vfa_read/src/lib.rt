@@ -3,19 +3,28 @@
 
 mod blocks;
 mod calls;
+mod extents;
 mod forms;
 mod headers;
 mod intrinsics;
 mod laws;
 mod leaves;
+mod line_numbers;
 mod lines;
 mod names;
 mod numbers;
 mod operations;
 mod parts;
+mod reading;
 mod resolution;
+mod sentences;
 mod source;
 mod stops;
+mod tails;
+#[cfg(test)]
+mod tests;
 mod transfers;
 
 pub use laws::{one_reading, one_tree, sentence_or_shape};
+pub use names::token_name;
+pub use reading::{ReadFunction, read_function};

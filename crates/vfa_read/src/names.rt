@@ -1,13 +1,13 @@
 //! Names as written: plain, or in quotes.
 
 ghost use Rattle.std.specs.Prelude.{IsTrue, ◌<◌, ◌≡◌, ◌≤◌, [], ◌∷◌, ◌++◌, length, IfOk};
-ghost use Rattle.vfa_ir.specs.Names.{decoded, is_hex_digit, hex_value};
+ghost use Rattle.vfa_ir.specs.Names.{bytes_of_name as name_bytes, decoded, is_hex_digit, hex_value, token_name as name_of_token, written_name as name_part};
 ghost use Rattle.vfa_ir.specs.TokenLexemes.{written_name as name_written, quoted_name as name_quoted};
 
 use crate::numbers::is_digits;
-use crate::source::{first, without_last};
+use crate::source::{behind_first, between, first, without_last};
 use std::alloc::{AllocError, Global};
-use vfa_ir::Name;
+use vfa_ir::{Name, Token, TokenKind};
 
 #[tactic(auto, unfolding(vfa_ir::specs::Names::is_hex_digit, vfa_ir::specs::Tokens::is_digit))]
 fn is_hexadecimal(digit: u8) -> bool
@@ -97,4 +97,41 @@ pub fn written_name(alloc: Global, text: &[u8]) -> Result<Option<Name>, AllocErr
         return quoted_name(alloc, without_last(behind));
     }
     Ok(Some(Name::of(alloc, text)?))
+}
+
+/// The bytes that a run or a string stands for.
+fn bytes_of_name(alloc: Global, written: &[u8]) -> Result<Name, AllocError>
+    ensures { IfOk result (λ name. name ≡ name_bytes written.now) }
+{
+    let Some((sign, behind)) = first(written) else {
+        return Name::of(alloc, written);
+    };
+    if sign == b'"' {
+        return Ok(Name(unescaped(alloc, without_last(behind))?));
+    }
+    Name::of(alloc, written)
+}
+
+/// The run or the string of a token, without its sign or its colon.
+fn name_part_of<'a>(bytes: &'a [u8], token: &Token) -> &'a [u8]
+    ensures { result.now ≡ name_part bytes.now token.now }
+{
+    let text = between(bytes, token.start, token.end);
+    match token.kind {
+        TokenKind::Local => behind_first(text),
+        TokenKind::Global => behind_first(text),
+        TokenKind::Meta => behind_first(text),
+        TokenKind::Label => without_last(text),
+        _ => text,
+    }
+}
+
+/// The bytes of the name that a token of these bytes stands for, also where it is empty or digits alone in quotes, which
+/// name nothing in a function (Language Reference, "Identifiers").
+///
+/// The token `@"a\20b"` gives `a b`.
+pub fn token_name(alloc: Global, bytes: &[u8], token: &Token) -> Result<Name, AllocError>
+    ensures { IfOk result (λ name. name ≡ name_of_token bytes.now token.now) }
+{
+    bytes_of_name(alloc, name_part_of(bytes, token))
 }

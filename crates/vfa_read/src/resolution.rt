@@ -2,6 +2,7 @@
 
 mod blocks;
 mod definitions;
+mod functions;
 mod limits;
 mod literals;
 mod operands;
@@ -12,5 +13,5 @@ mod table;
 mod terminators;
 mod values;
 
-pub use definitions::symbols_of;
+pub use functions::function_of;
 pub use limits::too_many;

@@ -51,7 +51,7 @@ pub fn first(text: &[u8]) -> Option<(u8, &[u8])>
 }
 
 /// The bytes from one offset to another.
-fn between(bytes: &[u8], start: usize, end: usize) -> &[u8]
+pub fn between(bytes: &[u8], start: usize, end: usize) -> &[u8]
     ensures { result.now ≡ slice_range bytes.now start end }
 {
     let first = start.min(bytes.len());

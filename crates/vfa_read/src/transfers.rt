@@ -66,7 +66,7 @@ impl<'a> Source<'a> {
     }
 
     /// Whether a word stands at a place.
-    fn has_any_word(&self, at: usize) -> bool
+    pub fn has_any_word(&self, at: usize) -> bool
         ensures { result ≡ next_passes is_any_word (drop at (all_of self.now)) }
     {
         if let Some(Seen::Word(_)) = self.seen(at) {
