@@ -1,0 +1,126 @@
+-- A printed block is read as its lexemes.
+use Rattle.std.proofs.Common.{◌≡◌, ℕ, List, [], ◌∷◌, ◌++◌, flat_map, Option, Some, None, codes, refl, sym, subst, ap, append_assoc}
+use Rattle.std.proofs.lemmas.List.{append-nil}
+use Rattle.std.proofs.lemmas.List.Elements.{recursion_from_All}
+use Rattle.std.specs.List.{AllByRecursion}
+use Rattle.vfa_ir.specs.declared.syntax.BasicBlock.{BasicBlock}
+use Rattle.vfa_ir.specs.declared.syntax.SwitchCase.{SwitchCase}
+use Rattle.vfa_ir.specs.declared.syntax.Transfer.{Transfer}
+use Rattle.vfa_ir.specs.Lexemes.{Lexeme, label, word}
+use Rattle.vfa_ir.specs.Spelling.{open_square, close_square, comma, typed, target, switch_case, transfer, line, block_label, terminator, attachments}
+use Rattle.vfa_ir.specs.Spelling as spell
+use Rattle.vfa_ir.specs.Tokens.{is_blank}
+use Rattle.vfa_print.proofs.Found.{Gives, gives_more, gives_nothing}
+use Rattle.vfa_print.proofs.Lexed.{IsLexed, IsLexedBlock}
+use Rattle.vfa_print.proofs.PrintedLines.{blanks_give, line_gives}
+use Rattle.vfa_print.specs.Layout.{text_line, indented, line_feed, switch_front, transfer_text, label_text, block_text, blocks_text}
+
+pub all_split :
+    {X : Type 0} (P : X → Type 0) (xs ys : List X) → AllByRecursion P (xs ++ ys) → AllByRecursion P xs × AllByRecursion P ys
+all_split P [] ys h = (tt, h)
+all_split P (x ∷ xs) ys h = let parts : AllByRecursion P xs × AllByRecursion P ys = all_split P xs ys h.1 in ((h.0, parts.0), parts.1)
+
+all_flat :
+    {A X : Type 0} (P : X → Type 0) (f : A → List X) (xs : List A) → AllByRecursion P (flat_map f xs) →
+    AllByRecursion (λ a. AllByRecursion P (f a)) xs
+all_flat P f [] h = tt
+all_flat P f (x ∷ xs) h =
+    let parts : AllByRecursion P (f x) × AllByRecursion P (flat_map f xs) = all_split P (f x) (flat_map f xs) h in
+    (parts.0, all_flat P f xs parts.1)
+
+-- texts one behind the other
+flat_gives :
+    {A : Type 0} (P : A → Type 0) (text : A → List ℕ) (spelled : A → List Lexeme) →
+    ((x : A) (rest : List ℕ) → P x → Gives (text x) rest (spelled x)) → (xs : List A) (rest : List ℕ) →
+    AllByRecursion P xs → Gives (flat_map text xs) rest (flat_map spelled xs)
+flat_gives P text spelled each [] rest h = gives_nothing rest
+flat_gives P text spelled each (x ∷ xs) rest h =
+    gives_more (text x) (flat_map text xs) rest (spelled x) (flat_map spelled xs) (each x _ h.0)
+    (flat_gives P text spelled each xs rest h.1)
+
+indented_gives : (ls : List Lexeme) (rest : List ℕ) → AllByRecursion IsLexed ls → Gives (indented ls) rest ls
+unfolding is_blank
+indented_gives ls rest lexed = line_gives (codes "  ") ls rest refl lexed
+
+case_gives :
+    (width : ℕ) (c : SwitchCase) (rest : List ℕ) → AllByRecursion IsLexed (switch_case width c) →
+    Gives (text_line (codes "    ") (switch_case width c)) rest (switch_case width c)
+unfolding is_blank
+case_gives width c rest lexed = line_gives (codes "    ") (switch_case width c) rest refl lexed
+
+-- a switch in its parts
+switch_parts :
+    (width : ℕ) (on : List Lexeme) (default : List ℕ) (rest : List Lexeme) →
+    switch_front width on default ++ rest ≡ word (codes "switch") ∷ (on ++ (comma ∷ (target default ++ (open_square ∷ rest))))
+switch_parts width on default rest =
+    ap (λ ls. word (codes "switch") ∷ ls) (append_assoc on (comma ∷ (target default ++ (open_square ∷ []))) rest)
+
+switch_gives :
+    (width : ℕ) (on : List Lexeme) (default : List ℕ) (cases : List SwitchCase) (rest : List ℕ) →
+    AllByRecursion IsLexed (switch_front width on default ++ (flat_map (switch_case width) cases ++ (close_square ∷ []))) →
+    Gives
+    (indented (switch_front width on default)
+    ++ (flat_map (λ c. text_line (codes "    ") (switch_case width c)) cases ++ indented (close_square ∷ [])))
+    rest
+    (switch_front width on default ++ (flat_map (switch_case width) cases ++ (close_square ∷ [])))
+switch_gives width on default cases rest lexed =
+    let front : List Lexeme = switch_front width on default in
+    let inner : List Lexeme = flat_map (switch_case width) cases in
+    let outer : AllByRecursion IsLexed front × AllByRecursion IsLexed (inner ++ (close_square ∷ [])) = all_split IsLexed front _ lexed in
+    let parts : AllByRecursion IsLexed inner × AllByRecursion IsLexed (close_square ∷ []) = all_split IsLexed inner _ outer.1 in
+    gives_more (indented front) _ rest front (inner ++ (close_square ∷ [])) (indented_gives front _ outer.0)
+    (gives_more _ (indented (close_square ∷ [])) rest inner (close_square ∷ [])
+    (flat_gives (λ c. AllByRecursion IsLexed (switch_case width c)) (λ c. text_line (codes "    ") (switch_case width c))
+    (switch_case width) (case_gives width) cases _ (all_flat IsLexed (switch_case width) cases parts.0))
+    (indented_gives (close_square ∷ []) rest parts.1))
+
+transfer_gives : (t : Transfer) (rest : List ℕ) → AllByRecursion IsLexed (transfer t) → Gives (transfer_text t) rest (transfer t)
+transfer_gives (Transfer.Switch width on default cases) rest lexed =
+    let parts = switch_parts width (typed width on) default (flat_map (switch_case width) cases ++ (close_square ∷ [])) in
+    let text : List ℕ = transfer_text (Transfer.Switch width on default cases) in
+    subst (λ ls. Gives text rest ls) parts
+    (switch_gives width (typed width on) default cases rest (subst (AllByRecursion IsLexed) (sym parts) lexed))
+transfer_gives (Transfer.Return width a) rest lexed = indented_gives (transfer (Transfer.Return width a)) rest lexed
+transfer_gives (Transfer.Always to) rest lexed = indented_gives (transfer (Transfer.Always to)) rest lexed
+transfer_gives (Transfer.Condition c taken fallen) rest lexed =
+    indented_gives (transfer (Transfer.Condition c taken fallen)) rest lexed
+transfer_gives Transfer.Unreachable rest lexed = indented_gives (transfer Transfer.Unreachable) rest lexed
+
+label_gives :
+    (name : Option (List ℕ)) (rest : List ℕ) → AllByRecursion IsLexed (block_label name) →
+    Gives (label_text name) rest (block_label name)
+label_gives None rest lexed = gives_nothing rest
+label_gives (Some name) rest lexed = line_gives [] (label name ∷ []) rest refl lexed
+
+bare_terminator : (b : BasicBlock) → b.terminator.attached ≡ [] → terminator b.terminator ≡ transfer b.terminator.transfer
+bare_terminator b h = rw h (append-nil (transfer b.terminator.transfer))
+
+pub block_gives : (b : BasicBlock) (rest : List ℕ) → IsLexedBlock b → Gives (block_text b) rest (spell.block b)
+block_gives b rest lexed =
+    let bare : terminator b.terminator ≡ transfer b.terminator.transfer = bare_terminator b lexed.bare in
+    let all : AllByRecursion IsLexed (spell.block b) = recursion_from_All IsLexed (spell.block b) lexed.tokens in
+    let lines : List Lexeme = flat_map line b.lines in
+    let last : List Lexeme = transfer b.terminator.transfer in
+    let outer : AllByRecursion IsLexed (block_label b.label) × AllByRecursion IsLexed (lines ++ terminator b.terminator) =
+    all_split IsLexed (block_label b.label) _ all in
+    let parts : AllByRecursion IsLexed lines × AllByRecursion IsLexed (terminator b.terminator) = all_split IsLexed lines _ outer.1 in
+    subst (λ ls. Gives (block_text b) rest (block_label b.label ++ (lines ++ ls))) (sym bare)
+    (gives_more (label_text b.label) _ rest (block_label b.label) (lines ++ last) (label_gives b.label _ outer.0)
+    (gives_more (flat_map (λ l. indented (line l)) b.lines) (transfer_text b.terminator.transfer) rest lines last
+    (flat_gives (λ l. AllByRecursion IsLexed (line l)) (λ l. indented (line l)) line (λ l. indented_gives (line l)) b.lines _
+    (all_flat IsLexed line b.lines parts.0))
+    (transfer_gives b.terminator.transfer rest (subst (AllByRecursion IsLexed) bare parts.1))))
+
+-- blocks behind the first have an empty line before them
+further_gives : (b : BasicBlock) (rest : List ℕ) → IsLexedBlock b → Gives (line_feed ++ block_text b) rest (spell.block b)
+unfolding is_blank
+further_gives b rest lexed =
+    gives_more line_feed (block_text b) rest [] (spell.block b) (blanks_give line_feed _ refl) (block_gives b rest lexed)
+
+pub blocks_give :
+    (bs : List BasicBlock) (rest : List ℕ) → AllByRecursion IsLexedBlock bs →
+    Gives (blocks_text bs) rest (flat_map spell.block bs)
+blocks_give [] rest lexed = gives_nothing rest
+blocks_give (entry ∷ bs) rest lexed =
+    gives_more (block_text entry) _ rest (spell.block entry) (flat_map spell.block bs) (block_gives entry _ lexed.0)
+    (flat_gives IsLexedBlock (λ b. line_feed ++ block_text b) spell.block further_gives bs rest lexed.1)

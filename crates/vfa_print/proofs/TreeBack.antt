@@ -1,0 +1,387 @@
+-- The function of the tree of a function is that function.
+use Rattle.std.proofs.Common.{◌≡◌, ◌∙◌, ℕ, zero, suc, ◌+◌, ◌<◌, ◌≤◌, ◌==◌, ◌&&◌, Bool, true, false, if◌then◌else◌, List, [], ◌∷◌, ◌++◌, map, flat_map, length, take, drop, Option, Some, None, is_none, option_map, option_and_then, slice_get, filter_map, refl, sym, ap, ap₂, arith, add-one, length-append, take-append-drop}
+use Rattle.std.specs.List.{AllByRecursion, cons_option, range_with_len}
+use Rattle.std.proofs.lemmas.List.{map-append}
+use Rattle.std.proofs.lemmas.List.Elements.{filter_map-append, recursion_from_All}
+use Rattle.std.proofs.lemmas.List.FromFn.{length-range_with_len}
+use Rattle.vfa_ir.specs.declared.functions.Block.{Block}
+use Rattle.vfa_ir.specs.declared.functions.Function.{Function}
+use Rattle.vfa_ir.specs.declared.functions.Inst.{Inst}
+use Rattle.vfa_ir.specs.declared.functions.Param.{Param}
+use Rattle.vfa_ir.specs.declared.functions.Phi.{Phi}
+use Rattle.vfa_ir.specs.declared.functions.Value.{Value}
+use Rattle.vfa_ir.specs.declared.numbering.Local.{Local}
+use Rattle.vfa_ir.specs.declared.operations.Op.{Op}
+use Rattle.vfa_ir.specs.declared.operations.Ty.{Ty}
+use Rattle.vfa_ir.specs.declared.operations.ValueId.{ValueId}
+use Rattle.vfa_ir.specs.declared.syntax.Instruction.{Instruction}
+use Rattle.vfa_ir.specs.declared.syntax.Line.{Line}
+use Rattle.vfa_ir.specs.declared.syntax.PhiNode.{PhiNode}
+use Rattle.vfa_ir.specs.DefinedNames.{kept_name}
+use Rattle.vfa_ir.specs.Grammar.{IsWidth}
+use Rattle.vfa_ir.specs.Printable.{IsBlock, IsIntegerType, IsOperand, IsPrintable, PrintableBlock, PrintableInst, PrintablePhi, block_ids, block_types, inst_ids, inst_types, op_type}
+use Rattle.vfa_ir.specs.Resolution.{Scope, block_id, block_of, block_values, function_of, inst_of, line_phi, line_plain, line_value, operand_of, operation_type, parameter_value, params_from, phi_of, scope_of, value_id, value_of}
+use Rattle.vfa_ir.specs.Shown.{shown_block_name, shown_value_name}
+use Rattle.vfa_print.specs.Trees.{block_tree, blocks_tree, entry_tree, inst_tree, label_tree, lines_tree, name_at, op_tree, parameter_tree, phi_tree, shown_scope, tree_of, width_at, width_of}
+use Rattle.vfa_print.proofs.NameNumbers.{by_place, shifted}
+use Rattle.vfa_print.proofs.OperationsBack.{block_back, op_back, operand_back, term_back, value_back}
+use Rattle.vfa_print.proofs.ShownNames.{HasFewNames, kept_shown}
+use Rattle.vfa_print.proofs.TreeNames.{AreWithin, all_parts, ids_within, names_of_range, tree_scope}
+use Rattle.vfa_print.proofs.TreeUses.{Entry, entries_are}
+
+-- parameters are the first values
+params_back :
+    (scope : Scope) (values : List Value) (place n : ℕ) (ps : List Param) (rest : List ℕ) →
+    map (λ p. p.value.0) ps ++ rest ≡ range_with_len place n → params_from place (map (parameter_tree scope values) ps) ≡ ps
+params_back scope values place n [] rest e = refl
+params_back scope values place zero (p ∷ ps) rest e = cc
+params_back scope values place (suc n) (p ∷ ps) rest e =
+    let here : p.value.0 ≡ place = cc in
+    let left : map (λ p. p.value.0) ps ++ rest ≡ range_with_len (place + 1) n = cc in
+    let more = ap (λ k. params_from k (map (parameter_tree scope values) ps)) (sym (add-one place)) ∙ params_back scope values (place + 1) n ps rest left in
+    let at : place ≡ p.value.0 = sym here in
+    λ i. record { value = record { 0 = at i }; words = p.words } ∷ more i
+
+-- the front of a range is a range
+front_of_range : (a n : ℕ) (xs rest : List ℕ) → xs ++ rest ≡ range_with_len a n → xs ≡ range_with_len a (length xs)
+front_of_range a n [] rest e = refl
+front_of_range a zero (x ∷ xs) rest e = cc
+front_of_range a (suc n) (x ∷ xs) rest e =
+    let here : x ≡ a = cc in
+    let left : xs ++ rest ≡ range_with_len (a + 1) n = cc in
+    ap₂ (λ x xs. x ∷ xs) here (front_of_range (a + 1) n xs rest left)
+
+same_values : (xs ys : List Value) → map (λ v. v.name) xs ≡ map (λ v. v.name) ys → map (λ v. v.ty) xs ≡ map (λ v. v.ty) ys → xs ≡ ys
+same_values [] [] names types = refl
+same_values [] (y ∷ ys) names types = cc
+same_values (x ∷ xs) [] names types = cc
+same_values (x ∷ xs) (y ∷ ys) names types =
+    let name : x.name ≡ y.name = cc in
+    let ty : x.ty ≡ y.ty = cc in
+    let more_names : map (λ v. v.name) xs ≡ map (λ v. v.name) ys = cc in
+    let more_types : map (λ v. v.ty) xs ≡ map (λ v. v.ty) ys = cc in
+    let left = same_values xs ys more_names more_types in
+    λ i. record { name = name i; ty = ty i } ∷ left i
+
+map-map : {X Y Z : Type 0} (g : Y → Z) (h : X → Y) (xs : List X) → map g (map h xs) ≡ map (λ x. g (h x)) xs
+map-map g h [] = refl
+map-map g h (x ∷ xs) = ap (λ l. g (h x) ∷ l) (map-map g h xs)
+
+map-agree : {X Y : Type 0} (g h : X → Y) → ((x : X) → g x ≡ h x) → (xs : List X) → map g xs ≡ map h xs
+map-agree g h same [] = refl
+map-agree g h same (x ∷ xs) = ap₂ (λ y ys. y ∷ ys) (same x) (map-agree g h same xs)
+
+-- the names and the types of what the tree defines
+module _ (scope : Scope) where
+  abbrev kept_at : ℕ → Option (List ℕ)
+  kept_at v = kept_name (name_at scope.values v)
+
+  phi_names : (ps : List Phi) → map (λ v. v.name) (filter_map line_value (map (λ p. Line.Phi (phi_tree scope p)) ps)) ≡ map kept_at (map (λ p. p.result.0) ps)
+  phi_names [] = refl
+  phi_names (p ∷ ps) = ap (λ l. kept_at p.result.0 ∷ l) (phi_names ps)
+
+  phi_types : (ps : List Phi) → map (λ v. v.ty) (filter_map line_value (map (λ p. Line.Phi (phi_tree scope p)) ps)) ≡ map (λ p. Ty.Int p.width) ps
+  phi_types [] = refl
+  phi_types (p ∷ ps) = ap (λ l. Ty.Int p.width ∷ l) (phi_types ps)
+
+  inst_names : (is : List Inst) → map (λ v. v.name) (filter_map line_value (map (λ i. Line.Plain (inst_tree scope i)) is)) ≡ map kept_at (inst_ids is)
+  inst_names [] = refl
+  inst_names (i ∷ is) = by i.result (inst_names is)
+    where
+      rest : List Value
+      rest = filter_map line_value (map (λ i. Line.Plain (inst_tree scope i)) is)
+
+      ty : Ty
+      ty = operation_type (op_tree scope i.op)
+
+      by :
+          (r : Option ValueId) → map (λ v. v.name) rest ≡ map kept_at (inst_ids is) →
+          map (λ v. v.name) (cons_option (option_map (λ name. value_of name ty) (option_map (λ v. name_at scope.values v.0) r)) rest)
+          ≡ map kept_at (cons_option (elim r [ None ↦ None | Some v ↦ Some v.0 ]) (inst_ids is))
+      by None e = e
+      by (Some v) e = ap (λ l. kept_at v.0 ∷ l) e
+
+  type_back : (op : Op) → operation_type (op_tree scope op) ≡ op_type op
+  type_back (Op.Bin bin flags width a b) = refl
+  type_back (Op.Icmp pred width a b) = refl
+  type_back (Op.Select width c a b) = refl
+  type_back (Op.Cast cast from to a) = refl
+  type_back (Op.Freeze width a) = refl
+  type_back (Op.Two fun width a b) = refl
+  type_back (Op.One fun width a strict) = refl
+  type_back (Op.Over over width a b) = refl
+  type_back (Op.Part width pair index) = refl
+  type_back (Op.Assume c) = refl
+
+  instruction_types : (is : List Inst) → map (λ v. v.ty) (filter_map line_value (map (λ i. Line.Plain (inst_tree scope i)) is)) ≡ inst_types is
+  instruction_types [] = refl
+  instruction_types (i ∷ is) = by i.result (instruction_types is)
+    where
+      rest : List Value
+      rest = filter_map line_value (map (λ i. Line.Plain (inst_tree scope i)) is)
+
+      by :
+          (r : Option ValueId) → map (λ v. v.ty) rest ≡ inst_types is →
+          map (λ v. v.ty) (cons_option (option_map (λ name. value_of name (operation_type (op_tree scope i.op))) (option_map (λ v. name_at scope.values v.0) r)) rest)
+          ≡ cons_option (elim r [ None ↦ None | Some _ ↦ Some (op_type i.op) ]) (inst_types is)
+      by None e = e
+      by (Some v) e = ap₂ (λ t l. t ∷ l) (type_back i.op) e
+
+  block_value_names : (place : ℕ) (b : Block) → map (λ v. v.name) (block_values (block_tree scope place b)) ≡ map kept_at (block_ids b)
+  block_value_names place b =
+      let phis = map (λ p. Line.Phi (phi_tree scope p)) b.phis in
+      let plain = map (λ i. Line.Plain (inst_tree scope i)) b.insts in
+      ap (map (λ v. v.name)) (filter_map-append line_value phis plain)
+      ∙ map-append (λ v. v.name) (filter_map line_value phis) (filter_map line_value plain)
+      ∙ ap₂ (λ x y. x ++ y) (phi_names b.phis) (inst_names b.insts)
+      ∙ sym (map-append kept_at (map (λ p. p.result.0) b.phis) (inst_ids b.insts))
+
+  block_value_types : (place : ℕ) (b : Block) → map (λ v. v.ty) (block_values (block_tree scope place b)) ≡ block_types b
+  block_value_types place b =
+      let phis = map (λ p. Line.Phi (phi_tree scope p)) b.phis in
+      let plain = map (λ i. Line.Plain (inst_tree scope i)) b.insts in
+      ap (map (λ v. v.ty)) (filter_map-append line_value phis plain)
+      ∙ map-append (λ v. v.ty) (filter_map line_value phis) (filter_map line_value plain)
+      ∙ ap₂ (λ x y. x ++ y) (phi_types b.phis) (instruction_types b.insts)
+
+  blocks_value_names : (place : ℕ) (bs : List Block) → map (λ v. v.name) (flat_map block_values (blocks_tree scope place bs)) ≡ map kept_at (flat_map block_ids bs)
+  blocks_value_names place [] = refl
+  blocks_value_names place (b ∷ bs) =
+      map-append (λ v. v.name) (block_values (block_tree scope place b)) (flat_map block_values (blocks_tree scope (suc place) bs))
+      ∙ ap₂ (λ x y. x ++ y) (block_value_names place b) (blocks_value_names (suc place) bs)
+      ∙ sym (map-append kept_at (block_ids b) (flat_map block_ids bs))
+
+  blocks_value_types : (place : ℕ) (bs : List Block) → map (λ v. v.ty) (flat_map block_values (blocks_tree scope place bs)) ≡ flat_map block_types bs
+  blocks_value_types place [] = refl
+  blocks_value_types place (b ∷ bs) =
+      map-append (λ v. v.ty) (block_values (block_tree scope place b)) (flat_map block_values (blocks_tree scope (suc place) bs))
+      ∙ ap₂ (λ x y. x ++ y) (block_value_types place b) (blocks_value_types (suc place) bs)
+
+  parameter_names_back : (values : List Value) (ps : List Param) → map (λ v. v.name) (map parameter_value (map (parameter_tree scope values) ps)) ≡ map kept_at (map (λ p. p.value.0) ps)
+  parameter_names_back values [] = refl
+  parameter_names_back values (p ∷ ps) = ap (λ l. kept_at p.value.0 ∷ l) (parameter_names_back values ps)
+
+  parameter_types : (values : List Value) (ps : List Param) → map (λ v. v.ty) (map parameter_value (map (parameter_tree scope values) ps)) ≡ map (λ i. Ty.Int (width_at values i)) (map (λ p. p.value.0) ps)
+  parameter_types values [] = refl
+  parameter_types values (p ∷ ps) = ap (λ l. Ty.Int (width_at values p.value.0) ∷ l) (parameter_types values ps)
+
+integer_type : (ty : Ty) → IsIntegerType ty → Ty.Int (width_of ty) ≡ ty
+integer_type (Ty.Int width) h = refl
+integer_type (Ty.Pair width) h = absurd h
+
+integer_types :
+    (values : List Value) (k : ℕ) → k ≤ length values → AllByRecursion (λ v. IsIntegerType v.ty) (take k values) →
+    map (λ i. Ty.Int (width_at values i)) (range_with_len 0 k) ≡ map (λ v. v.ty) (take k values)
+integer_types values zero h all = refl
+integer_types [] (suc k) h all = absurd (omega arith)
+integer_types (v ∷ values) (suc k) h all =
+    ap₂ (λ x l. x ∷ l) (integer_type v.ty all.0)
+    (shifted (λ i. Ty.Int (width_at (v ∷ values) i)) 0 k ∙ integer_types values k (omega arith) all.1)
+
+module _ (f : Function) (printable : IsPrintable f) (few : HasFewNames f) where
+  -- the parameters are the first values
+  parameter_range : map (λ p. p.value.0) f.params ≡ range_with_len 0 (length f.params)
+  parameter_range =
+      front_of_range 0 (length f.values) (map (λ p. p.value.0) f.params) (flat_map block_ids f.blocks) printable.ids
+      ∙ ap (range_with_len 0) (length-map (λ p. p.value.0) f.params)
+    where
+      length-map : {X Y : Type 0} (g : X → Y) (xs : List X) → length (map g xs) ≡ length xs
+      length-map g [] = refl
+      length-map g (x ∷ xs) = ap (λ n. suc n) (length-map g xs)
+
+  fewer_parameters : length f.params ≤ length f.values
+  fewer_parameters =
+      let params = map (λ p. p.value.0) f.params in
+      let results = flat_map block_ids f.blocks in
+      let all = sym (length-append params results) ∙ ap length printable.ids ∙ length-range_with_len 0 (length f.values) in
+      let front = ap length parameter_range ∙ length-range_with_len 0 (length f.params) in
+      omega (arith, all, front)
+
+  value_name_back : (v : ℕ) → kept_name (shown_value_name f v) ≡ option_and_then (λ x. x.name) (slice_get f.values v)
+  value_name_back v = kept_shown f printable (Local.Value v)
+
+  block_name_back : (b : ℕ) → kept_name (shown_block_name f b) ≡ option_and_then (λ x. x.name) (slice_get f.blocks b)
+  block_name_back b = kept_shown f printable (Local.Block b)
+
+  kept_value_names : map (kept_at (shown_scope f)) (range_with_len 0 (length f.values)) ≡ map (λ v. v.name) f.values
+  kept_value_names =
+      let n = length f.values in
+      let names = (shown_scope f).values in
+      sym (map-map kept_name (name_at names) (range_with_len 0 n))
+      ∙ ap (map kept_name) (names_of_range (shown_value_name f) n)
+      ∙ map-map kept_name (shown_value_name f) (range_with_len 0 n)
+      ∙ map-agree (λ v. kept_name (shown_value_name f v)) (λ v. option_and_then (λ x. x.name) (slice_get f.values v)) value_name_back (range_with_len 0 n)
+      ∙ by_place (λ x. x.name) f.values
+
+  kept_block_names : map (λ b. kept_name (name_at (shown_scope f).blocks b)) (range_with_len 0 (length f.blocks)) ≡ map (λ b. b.name) f.blocks
+  kept_block_names =
+      let n = length f.blocks in
+      let names = (shown_scope f).blocks in
+      sym (map-map kept_name (name_at names) (range_with_len 0 n))
+      ∙ ap (map kept_name) (names_of_range (shown_block_name f) n)
+      ∙ map-map kept_name (shown_block_name f) (range_with_len 0 n)
+      ∙ map-agree (λ b. kept_name (shown_block_name f b)) (λ b. option_and_then (λ x. x.name) (slice_get f.blocks b)) block_name_back (range_with_len 0 n)
+      ∙ by_place (λ x. x.name) f.blocks
+
+  values_back : map parameter_value (tree_of f).parameters ++ flat_map block_values (tree_of f).blocks ≡ f.values
+  values_back =
+      let scope = shown_scope f in
+      let parameters = map parameter_value (tree_of f).parameters in
+      let results = flat_map block_values (tree_of f).blocks in
+      let ids = map (λ p. p.value.0) f.params in
+      let k = length f.params in
+      let names : map (λ v. v.name) (parameters ++ results) ≡ map (λ v. v.name) f.values =
+      map-append (λ v. v.name) parameters results
+      ∙ ap₂ (λ x y. x ++ y) (parameter_names_back scope f.values f.params) (blocks_value_names scope 0 f.blocks)
+      ∙ sym (map-append (kept_at scope) ids (flat_map block_ids f.blocks))
+      ∙ ap (map (kept_at scope)) printable.ids ∙ kept_value_names in
+      let integers = integer_types f.values k fewer_parameters (recursion_from_All (λ v. IsIntegerType v.ty) (take k f.values) printable.types.parameters) in
+      let types : map (λ v. v.ty) (parameters ++ results) ≡ map (λ v. v.ty) f.values =
+      map-append (λ v. v.ty) parameters results
+      ∙ ap₂ (λ x y. x ++ y)
+      (parameter_types scope f.values f.params ∙ ap (map (λ i. Ty.Int (width_at f.values i))) parameter_range ∙ integers)
+      (blocks_value_types scope 0 f.blocks ∙ sym printable.types.results)
+      ∙ sym (map-append (λ v. v.ty) (take k f.values) (drop k f.values))
+      ∙ ap (map (λ v. v.ty)) (take-append-drop k f.values) in
+      same_values (parameters ++ results) f.values names types
+
+  -- blocks
+  entries_back :
+      (width : ℕ) (es : List Entry) → IsWidth width → AllByRecursion (λ e. IsOperand f width e.0 × IsBlock f e.1) es →
+      map (λ i. (operand_of (shown_scope f) width i.value, block_id (shown_scope f) i.block)) (map (entry_tree (shown_scope f) width) es) ≡ es
+  entries_back width [] w h = refl
+  entries_back width (e ∷ es) w h =
+      let value = operand_back f printable few width e.0 w h.0.0 in
+      let block = block_back f printable few e.1 h.0.1 in
+      let left = entries_back width es w h.1 in
+      λ i. (value i, block i) ∷ left i
+
+  phi_back : (p : Phi) → PrintablePhi f p → p.result.0 < length f.values → phi_of (shown_scope f) (phi_tree (shown_scope f) p) ≡ p
+  phi_back p h within =
+      let scope = shown_scope f in
+      let result = value_back f printable few p.result within in
+      let entries = ap (map (λ i. (operand_of scope p.width i.value, block_id scope i.block))) (entries_are f p h.some)
+      ∙ entries_back p.width p.entries h.width (recursion_from_All (λ e. IsOperand f p.width e.0 × IsBlock f e.1) p.entries h.entries) in
+      λ i. record { result = result i; width = p.width; entries = entries i }
+
+  phis_back :
+      (ps : List Phi) → AllByRecursion (PrintablePhi f) ps → AreWithin (length f.values) (map (λ p. p.result.0) ps) →
+      map (phi_of (shown_scope f)) (map (phi_tree (shown_scope f)) ps) ≡ ps
+  phis_back [] h within = refl
+  phis_back (p ∷ ps) h within = ap₂ (λ x l. x ∷ l) (phi_back p h.0 within.0) (phis_back ps h.1 within.1)
+
+  insts_back :
+      (is : List Inst) → AllByRecursion (PrintableInst f) is → AreWithin (length f.values) (inst_ids is) →
+      map (inst_of (shown_scope f)) (map (inst_tree (shown_scope f)) is) ≡ is
+  insts_back [] h within = refl
+  insts_back (j ∷ is) h within =
+      let op = op_back f printable few j.op h.0.op in
+      let result = by j.result within in
+      let left = insts_back is h.1 (rest j.result within) in
+      λ i. record { result = result i; op = op i } ∷ left i
+    where
+      scope : Scope
+      scope = shown_scope f
+
+      by :
+          (r : Option ValueId) → AreWithin (length f.values) (cons_option (elim r [ None ↦ None | Some v ↦ Some v.0 ]) (inst_ids is)) →
+          option_map (value_id scope) (option_map (λ v. name_at scope.values v.0) r) ≡ r
+      by None h = refl
+      by (Some v) h = ap (λ v. Some v) (value_back f printable few v h.0)
+
+      rest :
+          (r : Option ValueId) → AreWithin (length f.values) (cons_option (elim r [ None ↦ None | Some v ↦ Some v.0 ]) (inst_ids is)) →
+          AreWithin (length f.values) (inst_ids is)
+      rest None h = h
+      rest (Some v) h = h.1
+
+phis_among : (g : Phi → PhiNode) (ps : List Phi) → filter_map line_phi (map (λ p. Line.Phi (g p)) ps) ≡ map g ps
+phis_among g [] = refl
+phis_among g (p ∷ ps) = ap (λ l. g p ∷ l) (phis_among g ps)
+
+no_phis : (g : Inst → Instruction) (is : List Inst) → filter_map line_phi (map (λ i. Line.Plain (g i)) is) ≡ []
+no_phis g [] = refl
+no_phis g (i ∷ is) = no_phis g is
+
+no_plain : (g : Phi → PhiNode) (ps : List Phi) → filter_map line_plain (map (λ p. Line.Phi (g p)) ps) ≡ []
+no_plain g [] = refl
+no_plain g (p ∷ ps) = no_plain g ps
+
+plain_among : (g : Inst → Instruction) (is : List Inst) → filter_map line_plain (map (λ i. Line.Plain (g i)) is) ≡ map g is
+plain_among g [] = refl
+plain_among g (i ∷ is) = ap (λ l. g i ∷ l) (plain_among g is)
+
+nothing_behind : {X : Type 0} (xs : List X) → xs ++ [] ≡ xs
+nothing_behind [] = refl
+nothing_behind (x ∷ xs) = ap (λ l. x ∷ l) (nothing_behind xs)
+
+tree_phis : (scope : Scope) (b : Block) → filter_map line_phi (lines_tree scope b) ≡ map (phi_tree scope) b.phis
+tree_phis scope b =
+    filter_map-append line_phi (map (λ p. Line.Phi (phi_tree scope p)) b.phis) (map (λ i. Line.Plain (inst_tree scope i)) b.insts)
+    ∙ ap₂ (λ x y. x ++ y) (phis_among (phi_tree scope) b.phis) (no_phis (inst_tree scope) b.insts)
+    ∙ nothing_behind (map (phi_tree scope) b.phis)
+
+tree_plain : (scope : Scope) (b : Block) → filter_map line_plain (lines_tree scope b) ≡ map (inst_tree scope) b.insts
+tree_plain scope b =
+    filter_map-append line_plain (map (λ p. Line.Phi (phi_tree scope p)) b.phis) (map (λ i. Line.Plain (inst_tree scope i)) b.insts)
+    ∙ ap₂ (λ x y. x ++ y) (no_plain (phi_tree scope) b.phis) (plain_among (inst_tree scope) b.insts)
+
+label_back :
+    (scope : Scope) (place : ℕ) (b : Block) → kept_name (name_at scope.blocks place) ≡ b.name →
+    elim (label_tree scope place b) [ None ↦ None | Some name ↦ kept_name name ] ≡ b.name
+label_back scope place b e = by (place == 0) b.name e
+  where
+    by :
+        (first : Bool) (name : Option (List ℕ)) → kept_name (name_at scope.blocks place) ≡ name →
+        elim (if first && is_none name then None else Some (name_at scope.blocks place)) [ None ↦ None | Some name ↦ kept_name name ] ≡ name
+    by true None e = refl
+    by true (Some name) e = e
+    by false None e = e
+    by false (Some name) e = e
+
+module _ (f : Function) (printable : IsPrintable f) (few : HasFewNames f) where
+  whole_block :
+      (place : ℕ) (b : Block) → PrintableBlock f b → AreWithin (length f.values) (block_ids b) →
+      kept_name (name_at (shown_scope f).blocks place) ≡ b.name → block_of (shown_scope f) (block_tree (shown_scope f) place b) ≡ b
+  whole_block place b h within named =
+      let scope = shown_scope f in
+      let ids = all_parts (λ i. i < length f.values) (map (λ p. p.result.0) b.phis) (inst_ids b.insts) within in
+      let name = label_back scope place b named in
+      let phis = ap (map (phi_of scope)) (tree_phis scope b) ∙ phis_back f printable few b.phis (recursion_from_All (PrintablePhi f) b.phis h.phis) ids.0 in
+      let insts = ap (map (inst_of scope)) (tree_plain scope b) ∙ insts_back f printable few b.insts (recursion_from_All (PrintableInst f) b.insts h.insts) ids.1 in
+      let term = term_back f printable few b.term h.term in
+      λ i. record { name = name i; phis = phis i; insts = insts i; term = term i }
+
+  blocks_back :
+      (place : ℕ) (bs : List Block) → AllByRecursion (PrintableBlock f) bs → AreWithin (length f.values) (flat_map block_ids bs) →
+      map (λ b. kept_name (name_at (shown_scope f).blocks b)) (range_with_len place (length bs)) ≡ map (λ b. b.name) bs →
+      map (block_of (shown_scope f)) (blocks_tree (shown_scope f) place bs) ≡ bs
+  blocks_back place [] h within names = refl
+  blocks_back place (b ∷ bs) h within names =
+      let scope = shown_scope f in
+      let ids = all_parts (λ i. i < length f.values) (block_ids b) (flat_map block_ids bs) within in
+      let here : kept_name (name_at scope.blocks place) ≡ b.name = cc in
+      let left : map (λ b. kept_name (name_at scope.blocks b)) (range_with_len (place + 1) (length bs)) ≡ map (λ b. b.name) bs = cc in
+      let more = ap (λ n. map (λ b. kept_name (name_at scope.blocks b)) (range_with_len n (length bs))) (sym (add-one place)) ∙ left in
+      ap₂ (λ x l. x ∷ l) (whole_block place b h.0 ids.0 here) (blocks_back (suc place) bs h.1 ids.1 more)
+
+  all_blocks_back : map (block_of (scope_of (tree_of f))) (tree_of f).blocks ≡ f.blocks
+  all_blocks_back =
+      let within = (all_parts (λ i. i < length f.values) (map (λ p. p.value.0) f.params) (flat_map block_ids f.blocks) (ids_within f printable)).1 in
+      ap (λ scope. map (block_of scope) (tree_of f).blocks) (tree_scope f printable)
+      ∙ blocks_back 0 f.blocks (recursion_from_All (PrintableBlock f) f.blocks printable.blocks) within (kept_block_names f printable few)
+
+pub function_back : (f : Function) → IsPrintable f → HasFewNames f → function_of (tree_of f) f.tail ≡ f
+function_back f printable few =
+    let params = params_back (shown_scope f) f.values 0 (length f.values) f.params (flat_map block_ids f.blocks) printable.ids in
+    let values = values_back f printable few in
+    let blocks = all_blocks_back f printable few in
+    λ i. record {
+      name = f.name;
+      lead = f.lead;
+      width = f.width;
+      params = params i;
+      tail = f.tail;
+      values = values i;
+      blocks = blocks i;
+    }

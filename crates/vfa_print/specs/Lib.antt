@@ -1,0 +1,4 @@
+pub mod Layout
+pub mod Numbered
+pub mod Trees
+pub mod Writing

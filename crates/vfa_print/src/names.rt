@@ -1,0 +1,107 @@
+//! Names as they are written: plain, or in quotes.
+
+ghost use Rattle.std.specs.Prelude.{◌≡◌, ◌<◌, ◌++◌, IfOk};
+ghost use Rattle.std.specs.List.{flat_map, list_all};
+ghost use Rattle.vfa_ir.specs.Tokens as tokens;
+ghost use Rattle.vfa_print.specs.Layout.{begins_with_digit as begins, byte_text, hex_digit as digit_of, is_escaped as escaped, is_plain as plain, name_text};
+
+use std::alloc::AllocError;
+
+#[tactic(auto, unfolding(vfa_ir::specs::Tokens::is_digit))]
+fn is_digit(b: u8) -> bool
+    ensures { result ≡ tokens.is_digit b }
+{
+    b'0' <= b && b <= b'9'
+}
+
+#[tactic(auto, unfolding(vfa_ir::specs::Tokens::is_letter))]
+fn is_letter(b: u8) -> bool
+    ensures { result ≡ tokens.is_letter b }
+{
+    (b'A' <= b && b <= b'Z') || (b'a' <= b && b <= b'z')
+}
+
+#[tactic(auto, unfolding(vfa_ir::specs::Tokens::is_run_byte))]
+fn is_run_byte(b: u8) -> bool
+    ensures { result ≡ tokens.is_run_byte b }
+{
+    is_letter(b) || is_digit(b) || b == b'-' || b == b'$' || b == b'.' || b == b'_'
+}
+
+fn begins_with_digit(name: &[u8]) -> bool
+    ensures { result ≡ begins name.now }
+{
+    match name.first() {
+        Some(b) => is_digit(*b),
+        None => false,
+    }
+}
+
+fn are_run_bytes(name: &[u8]) -> bool
+    ensures { result ≡ list_all tokens.is_run_byte name.now }
+{
+    name.iter().all(|b| is_run_byte(*b))
+}
+
+fn are_digits(name: &[u8]) -> bool
+    ensures { result ≡ list_all tokens.is_digit name.now }
+{
+    name.iter().all(|b| is_digit(*b))
+}
+
+/// Whether a name stands as it is.
+fn is_plain(name: &[u8]) -> bool
+    ensures { result ≡ plain name.now }
+{
+    are_run_bytes(name) && (!begins_with_digit(name) || are_digits(name))
+}
+
+#[tactic(auto, unfolding(crate::specs::Layout::is_escaped))]
+fn is_escaped(b: u8) -> bool
+    ensures { result ≡ escaped b }
+{
+    b == b'"' || b == b'\\' || b < 32 || 126 < b
+}
+
+fn hex_digit(n: u8) -> u8
+    requires { n < 16 }
+    ensures { result ≡ digit_of n }
+{
+    if n < 10 { b'0' + n } else { b'A' - 10 + n }
+}
+
+/// Puts a byte of a name in quotes last in a text.
+fn push_byte(text: &mut Vec<u8>, b: u8) -> Result<(), AllocError>
+    ensures { IfOk result (λ _. text.new.items ≡ text.old.items ++ byte_text b) }
+{
+    if !is_escaped(b) {
+        text.push(b)?;
+        return Ok(());
+    }
+    text.push(b'\\')?;
+    text.push(hex_digit(b / 16))?;
+    text.push(hex_digit(b % 16))?;
+    Ok(())
+}
+
+fn push_bytes(text: &mut Vec<u8>, bytes: &[u8]) -> Result<(), AllocError>
+    ensures { IfOk result (λ _. text.new.items ≡ text.old.items ++ flat_map byte_text bytes.now) }
+{
+    'bytes: for b in bytes {
+        push_byte(text, *b)?;
+    }
+    Ok(())
+}
+
+/// Puts a name last in a text.
+pub fn push_name(text: &mut Vec<u8>, name: &[u8]) -> Result<(), AllocError>
+    ensures { IfOk result (λ _. text.new.items ≡ text.old.items ++ name_text name.now) }
+{
+    if is_plain(name) {
+        return text.extend_from_slice(name);
+    }
+    text.push(b'"')?;
+    push_bytes(text, name)?;
+    text.push(b'"')?;
+    Ok(())
+}
