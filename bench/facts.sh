@@ -31,7 +31,7 @@ use vfa_wrap::Wrapped;
 const COUNT: usize = 1024;
 
 /// How often they go over all of them.
-const TURNS: u32 = 400;
+const TURNS: usize = 400;
 
 /// Numbers without a pattern.
 #[derive(Drop)]
@@ -150,12 +150,12 @@ fn cells<const W: u32>(alloc: Global, facts: &[Fact<W>]) -> Result<Vec<Cell>, Al
     Ok(list)
 }
 
-fn sharpen<const W: u32>(cases: &[Case<W>]) -> u128
+fn sharpen<const W: u32>(cases: &[Case<W>], by: &Case<W>) -> u128
     requires { IsWidth W }
 {
     let mut sum = 0u128;
     'each: for case in cases {
-        sum = sum.wrapping_add(weight(&Fact::sharp(case.known, case.arc, &inside(case.arc))));
+        sum = sum.wrapping_add(weight(&Fact::sharp(case.known, case.arc, &inside(by.arc))));
     }
     sum
 }
@@ -213,73 +213,24 @@ fn compare_cells(cells: &[Cell], by: &Cell) -> u128 {
 }
 
 /// Prints the time of a call.
-fn report(rt: &HostRuntime, name: &str, width: u32, start: Instant, calls: usize, sum: u128) -> io::Result<()> {
+fn report(rt: &HostRuntime, name: &str, width: u32, start: Instant, calls: u128, sum: u128) -> io::Result<()> {
     let spent = start.elapsed(rt)?.as_nanos();
-    let calls = (calls as u128).max(1).saturating_mul(TURNS as u128);
-    println!(rt; "width {width:>3}  {name:<14} {:>5} ns a call  (checksum {sum})", spent / calls)?;
+    println!(rt; "width {width:>3}  {name:<14} {:>5} ns a call  (checksum {sum})", spent / calls.max(1))?;
     Ok(())
 }
 
-fn measure_sharp<const W: u32>(rt: &HostRuntime, cases: &[Case<W>]) -> io::Result<()>
-    requires { IsWidth W }
-{
-    let start = Instant::now(rt)?;
-    let mut sum = 0u128;
-    'turns: for _ in 0..TURNS {
-        sum = sum.wrapping_add(sharpen(cases));
-    }
-    report(rt, "sharp", W, start, cases.len(), sum)
-}
-
-fn measure_join<const W: u32>(rt: &HostRuntime, facts: &[Fact<W>]) -> io::Result<()>
-    requires { IsWidth W }
-{
-    let start = Instant::now(rt)?;
-    let mut sum = 0u128;
-    'turns: for by in facts.iter().take(TURNS as usize) {
-        sum = sum.wrapping_add(join(facts, by));
-    }
-    report(rt, "join", W, start, facts.len(), sum)
-}
-
-fn measure_decide<const W: u32>(rt: &HostRuntime, facts: &[Fact<W>]) -> io::Result<()>
-    requires { IsWidth W }
-{
-    let start = Instant::now(rt)?;
-    let mut sum = 0u128;
-    'turns: for by in facts.iter().take(TURNS as usize) {
-        sum = sum.wrapping_add(decide(facts, by));
-    }
-    report(rt, "decide", W, start, facts.len(), sum)
-}
-
-fn measure_restrict<const W: u32>(rt: &HostRuntime, facts: &[Fact<W>]) -> io::Result<()>
-    requires { IsWidth W }
-{
-    let start = Instant::now(rt)?;
-    let mut sum = 0u128;
-    'turns: for by in facts.iter().take(TURNS as usize) {
-        sum = sum.wrapping_add(restrict(facts, by));
-    }
-    report(rt, "restrict", W, start, facts.len(), sum)
-}
-
-fn measure_join_cells(rt: &HostRuntime, width: u32, cells: &[Cell]) -> io::Result<()> {
-    let start = Instant::now(rt)?;
-    let mut sum = 0u128;
-    'turns: for by in cells.iter().take(TURNS as usize) {
-        sum = sum.wrapping_add(join_cells(cells, by));
-    }
-    report(rt, "join of cells", width, start, cells.len(), sum)
-}
-
-fn measure_compare_cells(rt: &HostRuntime, width: u32, cells: &[Cell]) -> io::Result<()> {
-    let start = Instant::now(rt)?;
-    let mut sum = 0u128;
-    'turns: for by in cells.iter().take(TURNS as usize) {
-        sum = sum.wrapping_add(compare_cells(cells, by));
-    }
-    report(rt, "compare cells", width, start, cells.len(), sum)
+/// Times a call over all items, once for each of some of them.
+macro_rules! measure {
+    ($rt:expr, $name:expr, $width:expr, $items:expr, $call:ident) => {{
+        let start = Instant::now($rt)?;
+        let mut sum = 0u128;
+        let mut calls = 0u128;
+        'turns: for by in $items.iter().take(TURNS) {
+            sum = sum.wrapping_add($call(&$items, by));
+            calls = calls.wrapping_add($items.len() as u128);
+        }
+        report($rt, $name, $width, start, calls, sum)?;
+    }};
 }
 
 fn measure<const W: u32>(rt: &HostRuntime) -> io::Result<()>
@@ -287,14 +238,15 @@ fn measure<const W: u32>(rt: &HostRuntime) -> io::Result<()>
 {
     let mut numbers = Numbers { state: 0x9e3779b97f4a7c15 };
     let cases: Vec<Case<W>> = cases(rt.alloc(), &mut numbers)?;
-    measure_sharp(rt, &cases)?;
+    measure!(rt, "sharp", W, cases, sharpen);
     let facts = facts(rt.alloc(), &cases)?;
-    measure_join(rt, &facts)?;
-    measure_decide(rt, &facts)?;
-    measure_restrict(rt, &facts)?;
+    measure!(rt, "join", W, facts, join);
+    measure!(rt, "decide", W, facts, decide);
+    measure!(rt, "restrict", W, facts, restrict);
     let cells = cells(rt.alloc(), &facts)?;
-    measure_join_cells(rt, W, &cells)?;
-    measure_compare_cells(rt, W, &cells)
+    measure!(rt, "join of cells", W, cells, join_cells);
+    measure!(rt, "compare cells", W, cells, compare_cells);
+    Ok(())
 }
 
 fn main(rt: HostRuntime) -> io::Result<()> {

@@ -147,7 +147,7 @@ count_named w low values (line ∷ rest) are =
 -- ---- the function
 
 module _ (w : ℕ) (lines : List Inst) (a : Operand) (are : AreLines w 1 lines) (is : IsOperand w (1 + length lines) a) (values : List Value) (count : length values ≡ 1 + length lines) where
-  rising : AreRising w 1 (length values) (left_lines w lines a)
+  pub rising : AreRising w 1 (length values) (left_lines w lines a)
   rising =
       let same : length (literal_lines w lines) ≡ length lines = literals_length w lines (no_facts w) in
       let within : 1 + length (literal_lines w lines) ≤ length values = omega arith in

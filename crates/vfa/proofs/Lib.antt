@@ -1,7 +1,4 @@
 mod Refining
-pub mod FirstReadingLemmas
-pub mod FirstSound
-pub mod FirstAgain
 mod KnownLists
 mod LiteralLoop
 mod NumberLoop
@@ -20,4 +17,7 @@ mod UnusedRuns
 mod NumberedRuns
 mod FoldedLines
 mod FoldRefines
-pub mod FirstShape
+mod FirstGlobals
+mod NameSets
+mod PartLists
+mod FoldPrintable

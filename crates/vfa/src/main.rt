@@ -1,14 +1,13 @@
 //! An optimiser for the integer part of LLVM's textual IR.
 #![tactic(auto)]
 
-mod first_form;
 mod fold;
 pub mod meaning;
+mod modules;
 mod run;
 mod status;
 #[cfg(test)]
 mod tests;
-mod text;
 mod words;
 
 use run::vfa_run;

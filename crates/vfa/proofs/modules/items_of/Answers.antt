@@ -1,0 +1,5 @@
+use Rattle.vfa.proofs.PartLists.{cover_placed}
+use Rattle.vfa.proofs.modules.items_of.Goals as goal
+
+pub returns-in-Ok-clause-places : goal.returns-in-Ok-clause-places
+returns-in-Ok-clause-places c = cover_placed c.args.bytes.now 0 _ c.in-Ok.ensures.cover

@@ -1,0 +1,9 @@
+use Rattle.vfa.proofs.modules.printed.whole_text.Goals as goal
+
+pub returns-clause-refines : goal.returns-clause-refines
+returns-clause-refines c = record {
+  function = c.args.f.now;
+  lines = c.in_ok-text.ensures.again.0;
+  reads = c.in_ok-text.ensures.again.1;
+  refines = c.refinement_is_a_preorder.ensures.reflexive c.args.f.now;
+}
