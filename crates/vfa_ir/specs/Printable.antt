@@ -42,15 +42,17 @@ ids_of f = map (λ p. p.value.0) f.params ++ flat_map block_ids f.blocks
 -- the type of a result
 abbrev pub op_type : Op → Ty
 op_type (Op.Bin _ _ width _ _) = Ty.Int width
-op_type (Op.Icmp _ _ _ _) = Ty.Int 1
+op_type (Op.Icmp _ _ _ _ _) = Ty.Int 1
 op_type (Op.Select width _ _ _) = Ty.Int width
-op_type (Op.Cast _ _ to _) = Ty.Int to
+op_type (Op.Cast _ _ _ to _) = Ty.Int to
 op_type (Op.Freeze width _) = Ty.Int width
 op_type (Op.Two _ width _ _) = Ty.Int width
 op_type (Op.One _ width _ _) = Ty.Int width
 op_type (Op.Over _ width _ _) = Ty.Pair width
 op_type (Op.Part width _ index) = if index == 0 then Ty.Int width else Ty.Int 1
 op_type (Op.Assume _) = Ty.Int 1
+op_type (Op.Call (Some width) _) = Ty.Int width
+op_type (Op.Call None _) = Ty.Int 1
 
 abbrev pub inst_types : List Inst → List Ty
 inst_types = filter_map (λ i. elim i.result [ None ↦ None | Some _ ↦ Some (op_type i.op) ])
@@ -94,15 +96,16 @@ HasItsArgument _ strict = ⊤
 
 abbrev pub PrintableOp : Function → Op → Type 0
 PrintableOp f (Op.Bin bin flags width a b) = HasItsFlags bin flags × AreOperands f width a b
-PrintableOp f (Op.Icmp _ width a b) = AreOperands f width a b
+PrintableOp f (Op.Icmp _ _ width a b) = AreOperands f width a b
 PrintableOp f (Op.Select width c a b) = IsOperand f 1 c × AreOperands f width a b
-PrintableOp f (Op.Cast _ from to a) = IsWidth from × IsOperand f from a × IsWidth to
+PrintableOp f (Op.Cast _ _ from to a) = IsWidth from × IsOperand f from a × IsWidth to
 PrintableOp f (Op.Freeze width a) = IsWidth width × IsOperand f width a
 PrintableOp f (Op.Two _ width a b) = AreOperands f width a b
 PrintableOp f (Op.One fun width a strict) = IsWidth width × IsOperand f width a × HasItsArgument fun strict
 PrintableOp f (Op.Over _ width a b) = AreOperands f width a b
 PrintableOp f (Op.Part width pair index) = IsWidth width × (pair.0 < length f.values) × (index ≤ 1)
 PrintableOp f (Op.Assume c) = IsOperand f 1 c
+PrintableOp f (Op.Call _ _) = ⊥
 
 -- all but `llvm.assume` have a result
 abbrev pub HasItsResult : Op → Option ValueId → Type 0

@@ -75,6 +75,7 @@ flags_of_words words = record {
   nuw = is_among (codes "nuw") words;
   nsw = is_among (codes "nsw") words;
   exact = is_among (codes "exact") words;
+  disjoint = is_among (codes "disjoint") words;
 }
 
 -- whether the second argument of `abs`, `ctlz` or `cttz` is true; `ctpop` has none
@@ -85,10 +86,10 @@ is_strict (Some l) = literal_bits 1 l == 1
 abbrev pub op_of : Scope → Operation → Op
 op_of scope (Operation.Binary bin words width a b) =
     Op.Bin bin (flags_of_words words) width (operand_of scope width a) (operand_of scope width b)
-op_of scope (Operation.Compare pred width a b) = Op.Icmp pred width (operand_of scope width a) (operand_of scope width b)
+op_of scope (Operation.Compare pred width a b) = Op.Icmp pred false width (operand_of scope width a) (operand_of scope width b)
 op_of scope (Operation.Select c width a b) =
     Op.Select width (operand_of scope 1 c) (operand_of scope width a) (operand_of scope width b)
-op_of scope (Operation.Convert cast from a to) = Op.Cast cast from to (operand_of scope from a)
+op_of scope (Operation.Convert cast from a to) = Op.Cast cast (record { nuw = false; nsw = false; nneg = false }) from to (operand_of scope from a)
 op_of scope (Operation.Freeze width a) = Op.Freeze width (operand_of scope width a)
 op_of scope (Operation.Extract width pair index) = Op.Part width (value_id scope pair) index
 op_of scope (Operation.Two _ fun width a b) = Op.Two fun width (operand_of scope width a) (operand_of scope width b)
@@ -176,4 +177,5 @@ function_of s tail = record {
   tail = tail;
   values = map parameter_value s.parameters ++ flat_map block_values s.blocks;
   blocks = map (block_of (scope_of s)) s.blocks;
+  calls = [];
 }

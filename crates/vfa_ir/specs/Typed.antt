@@ -33,17 +33,22 @@ pub record AreOfWidth (f : Function) (width : ℕ) (a b : Operand) : Type 0 wher
   pub first : IsOfType f (Ty.Int width) a
   pub second : IsOfType f (Ty.Int width) b
 
+-- each argument of a call has the type that is written
+abbrev pub TypedCall : Function → ℕ → Type 0
+TypedCall f call = IsSomeAnd (slice_get f.calls call) (λ c. All (λ a. IsOfType f (Ty.Int a.width) a.value) c.args)
+
 abbrev pub TypedOp : Function → Op → Type 0
 TypedOp f (Op.Bin _ _ width a b) = AreOfWidth f width a b
-TypedOp f (Op.Icmp _ width a b) = AreOfWidth f width a b
+TypedOp f (Op.Icmp _ _ width a b) = AreOfWidth f width a b
 TypedOp f (Op.Select width c a b) = IsOfType f (Ty.Int 1) c × AreOfWidth f width a b
-TypedOp f (Op.Cast cast from to a) = IsOfType f (Ty.Int from) a × Converts cast from to
+TypedOp f (Op.Cast cast _ from to a) = IsOfType f (Ty.Int from) a × Converts cast from to
 TypedOp f (Op.Freeze width a) = IsOfType f (Ty.Int width) a
 TypedOp f (Op.Two _ width a b) = AreOfWidth f width a b
 TypedOp f (Op.One _ width a _) = IsOfType f (Ty.Int width) a
 TypedOp f (Op.Over _ width a b) = AreOfWidth f width a b
 TypedOp f (Op.Part width pair _) = HasType f (Ty.Pair width) pair
 TypedOp f (Op.Assume c) = IsOfType f (Ty.Int 1) c
+TypedOp f (Op.Call _ call) = TypedCall f call
 
 abbrev pub TypedPhi : Function → Phi → Type 0
 TypedPhi f p = All (λ e. IsOfType f (Ty.Int p.width) e.0) p.entries

@@ -18,7 +18,7 @@ pub struct Phi {
 /// An instruction between the phis and the terminator.
 #[derive(Clone, Copy, Debug, PartialEq, Eq)]
 pub struct Inst {
-    /// The name that it defines; none for `llvm.assume` alone.
+    /// The name that it defines; none for `llvm.assume` and for a call of `void` alone.
     pub result: Option<ValueId>,
     /// What it computes.
     pub op: Op,
@@ -91,6 +91,28 @@ pub struct Param {
     pub words: Items<Name>,
 }
 
+/// An argument of a call.
+#[derive(Debug, Drop)]
+pub struct CallArg {
+    /// The width of its type.
+    pub width: u32,
+    /// The attributes between its type and its value, as written.
+    pub words: Items<Name>,
+    /// The value that is passed.
+    pub value: Operand,
+}
+
+/// A call of a function that is no intrinsic with a meaning of its own (Language Reference, "call Instruction").
+#[derive(Debug, Drop)]
+pub struct CallOp {
+    /// The name behind `@`.
+    pub callee: Name,
+    /// The words between `call` and the result's type, as written.
+    pub words: Items<Name>,
+    /// The arguments.
+    pub args: Items<CallArg>,
+}
+
 /// A function. Its values are numbered in text order: the parameters, then the results block by block.
 #[derive(Debug, Drop)]
 pub struct Function {
@@ -108,6 +130,8 @@ pub struct Function {
     pub values: Items<Value>,
     /// The blocks in text order, the entry first.
     pub blocks: Items<Block>,
+    /// The calls of its instructions `Op::Call`, in text order.
+    pub calls: Items<CallOp>,
 }
 
 /// Where the instructions of a function stand in its text.

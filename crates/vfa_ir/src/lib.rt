@@ -12,10 +12,10 @@ pub mod syntax;
 mod tests;
 mod tokens;
 
-pub use functions::{Block, Function, Inst, Lines, Param, Phi, Term, Value};
+pub use functions::{Block, CallArg, CallOp, Function, Inst, Lines, Param, Phi, Term, Value};
 pub use lists::{Few, Items};
 pub use names::Name;
 pub use numbering::{Local, locals, shown_block, shown_value};
-pub use operations::{Bin, BlockId, Cast, Flags, Fun1, Fun2, Op, Operand, Over, Pred, Ty, ValueId};
+pub use operations::{Bin, BlockId, Cast, CastFlags, Flags, Fun1, Fun2, Op, Operand, Over, Pred, Ty, ValueId};
 pub use reasons::{Kind, Outside};
 pub use tokens::{Token, TokenKind};

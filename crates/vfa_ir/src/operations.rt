@@ -54,7 +54,7 @@ pub enum Pred {
     Sle,
 }
 
-/// The words `nuw`, `nsw` and `exact`, each of which makes a result poison where it does not hold.
+/// The words `nuw`, `nsw`, `exact` and `disjoint`, each of which makes a result poison where it does not hold.
 #[derive(Clone, Copy, Debug, Default, PartialEq, Eq)]
 pub struct Flags {
     /// No unsigned wrap.
@@ -63,6 +63,8 @@ pub struct Flags {
     pub nsw: bool,
     /// Nothing is cut off: a division without remainder, a right shift that drops only zeros.
     pub exact: bool,
+    /// No bit is one in both operands of an `or`.
+    pub disjoint: bool,
 }
 
 /// The binary and bitwise binary operations.
@@ -105,6 +107,17 @@ pub enum Cast {
     Sext,
     /// `trunc`: to a lesser width, by the low bits.
     Trunc,
+}
+
+/// The words `nuw`, `nsw` and `nneg` of a conversion, each of which makes a result poison where it does not hold.
+#[derive(Clone, Copy, Debug, Default, PartialEq, Eq)]
+pub struct CastFlags {
+    /// `trunc`: no bit that is cut off is one.
+    pub nuw: bool,
+    /// `trunc`: the signed reading stays.
+    pub nsw: bool,
+    /// `zext`: the operand is not negative.
+    pub nneg: bool,
 }
 
 /// The intrinsics of two arguments.
@@ -178,6 +191,8 @@ pub enum Op {
     Icmp {
         /// The predicate.
         pred: Pred,
+        /// The word `samesign`: the result is poison where just one operand is negative.
+        samesign: bool,
         /// The width of the operands.
         width: u32,
         /// The first operand.
@@ -200,6 +215,8 @@ pub enum Op {
     Cast {
         /// The conversion.
         cast: Cast,
+        /// Its words; those that the conversion does not have are false.
+        flags: CastFlags,
         /// The operand's width.
         from: u32,
         /// The result's width.
@@ -260,5 +277,12 @@ pub enum Op {
     Assume {
         /// What is assumed, of type `i1`.
         c: Operand,
+    },
+    /// `call` of a function that is none of the intrinsics above.
+    Call {
+        /// The width of the result; none for `void`.
+        width: Option<u32>,
+        /// The place of the call in `Function::calls`.
+        call: u32,
     },
 }

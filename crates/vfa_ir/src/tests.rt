@@ -55,6 +55,7 @@ fn masked(alloc: Global) -> Result<Function, AllocError> {
         tail: Name(Vec::new(alloc)),
         values: Items(values),
         blocks: Items(blocks),
+        calls: Items(Vec::new(alloc)),
     })
 }
 
