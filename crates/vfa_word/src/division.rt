@@ -1,5 +1,5 @@
-ghost use Rattle.std.specs.Prelude.{◌≡◌, ◌≢◌, ◌-◌, ◌/◌, ◌%◌, ◌^◌, int_div, int_rem};
-ghost use Rattle.vfa_word.specs.Numbers.{wrap, signed_of};
+ghost use Rattle.std.specs.Prelude.{◌≡◌, ◌≢◌, ◌-◌, ◌^◌};
+ghost use Rattle.vfa_word.specs.Operations.{unsigned_quotient, unsigned_remainder, signed_quotient, signed_remainder};
 
 use crate::Word;
 
@@ -7,7 +7,7 @@ impl<const W: u32> Word<W> {
     /// The quotient, rounded down: LLVM's `udiv`.
     pub fn udiv(self, other: Word<W>) -> Word<W>
         requires { other ≢ 0 }
-        ensures { result ≡ self.entry / other.entry }
+        ensures { result ≡ unsigned_quotient self.entry other.entry }
     {
         Word::cut(self.bits() / other.bits())
     }
@@ -15,7 +15,7 @@ impl<const W: u32> Word<W> {
     /// The remainder of that quotient, LLVM's `urem`.
     pub fn urem(self, other: Word<W>) -> Word<W>
         requires { other ≢ 0 }
-        ensures { result ≡ self.entry % other.entry }
+        ensures { result ≡ unsigned_remainder self.entry other.entry }
     {
         Word::cut(self.bits() % other.bits())
     }
@@ -24,7 +24,7 @@ impl<const W: u32> Word<W> {
     pub fn sdiv(self, other: Word<W>) -> Word<W>
         requires nonzero { other ≢ 0 }
         requires no_overflow { other ≡ 2 ^ W - 1 → self ≢ 2 ^ (W - 1) }
-        ensures { result ≡ wrap W (int_div (signed_of W self.entry) (signed_of W other.entry)) }
+        ensures { result ≡ signed_quotient W self.entry other.entry }
     {
         Word::wrapped(self.signed() / other.signed())
     }
@@ -33,7 +33,7 @@ impl<const W: u32> Word<W> {
     pub fn srem(self, other: Word<W>) -> Word<W>
         requires nonzero { other ≢ 0 }
         requires no_overflow { other ≡ 2 ^ W - 1 → self ≢ 2 ^ (W - 1) }
-        ensures { result ≡ wrap W (int_rem (signed_of W self.entry) (signed_of W other.entry)) }
+        ensures { result ≡ signed_remainder W self.entry other.entry }
     {
         Word::wrapped(self.signed() % other.signed())
     }

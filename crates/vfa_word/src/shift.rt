@@ -1,5 +1,5 @@
-ghost use Rattle.std.specs.Prelude.{◌≡◌, ◌*◌, ◌/◌, ◌%◌, ◌^◌, ◌<◌};
-ghost use Rattle.vfa_word.specs.Numbers.{wrap, signed_of, floor_div};
+ghost use Rattle.std.specs.Prelude.{◌≡◌, ◌<◌};
+ghost use Rattle.vfa_word.specs.Operations.{shifted_left, shifted_right, shifted_right_signed};
 
 use crate::Word;
 
@@ -7,7 +7,7 @@ impl<const W: u32> Word<W> {
     /// The number times 2^amount modulo 2^W, LLVM's `shl`.
     pub fn shl(self, amount: u32) -> Word<W>
         requires { amount < W }
-        ensures { result ≡ (self.entry * 2 ^ amount) % 2 ^ W }
+        ensures { result ≡ shifted_left W self.entry amount }
     {
         Word::cut(self.bits() << amount)
     }
@@ -15,7 +15,7 @@ impl<const W: u32> Word<W> {
     /// The quotient by 2^amount, LLVM's `lshr`.
     pub fn lshr(self, amount: u32) -> Word<W>
         requires { amount < W }
-        ensures { result ≡ self.entry / 2 ^ amount }
+        ensures { result ≡ shifted_right self.entry amount }
     {
         Word::cut(self.bits() >> amount)
     }
@@ -23,7 +23,7 @@ impl<const W: u32> Word<W> {
     /// The quotient of the signed reading by 2^amount, rounded down, modulo 2^W: LLVM's `ashr`.
     pub fn ashr(self, amount: u32) -> Word<W>
         requires { amount < W }
-        ensures { result ≡ wrap W (floor_div (signed_of W self.entry) (2 ^ amount)) }
+        ensures { result ≡ shifted_right_signed W self.entry amount }
     {
         Word::wrapped(self.signed() >> amount)
     }
