@@ -18,7 +18,7 @@ use Rattle.vfa_word.specs.Numbers.{wrap}
 use Rattle.vfa_word.proofs.Wrapping.{wrap_difference_is}
 use Rattle.vfa_fact.specs.declared.numbers.Numbers.{Numbers}
 use Rattle.vfa_fact.specs.Fact.{masks_in, span_in, in_numbers, in_numbers_fits, IsFact}
-use Rattle.vfa_fact.specs.Sharp.{sharp_of}
+use Rattle.vfa_fact.specs.Sharp.{sharp_in}
 use Rattle.vfa_fact.proofs.SharpSets.{Member, member_test, sharp_none_tells, sharp_tells}
 use Rattle.vfa_fact.proofs.Facts.{numbers_from, numbers_parts, fact_cube, fact_best}
 
@@ -164,25 +164,23 @@ module _ (w : ℕ) (a b : Numbers) (left : IsFact w a) (right : IsFact w b) wher
 
     -- T is the test of lying outside the arc
     module _ (T : ℕ → Bool) (outside_arc : (x : ℕ) → x < 2 ^ w → T x ≡ not (in_span w (span_in a) x)) where
-      pub none_outside : sharp_of w b.first (meet (in_masks w (masks_in b)) (meet (in_span w (span_in b)) T)) ≡ None →
-          includes w (in_numbers w a) (in_numbers w b) ≡ true
+      pub none_outside : sharp_in w (span_in b) (meet (in_masks w (masks_in b)) T) ≡ None → includes w (in_numbers w a) (in_numbers w b) ≡ true
       none_outside none = includes_from w (in_numbers w a) (in_numbers w b) (λ x fits member.
           let parts = numbers_parts w b x member in
           in_left x member (elim (cases_Bool (in_span w (span_in a) x)) [
             | inl here ↦ here
             | inr gone ↦
                 let test : T x ≡ true = outside_arc x fits ∙ ap not gone in
-                let set = meet_from (in_masks w (masks_in b)) (meet (in_span w (span_in b)) T) x parts.0 (meet_from (in_span w (span_in b)) T x parts.1 test) in
-                absurd (true≢false (sym set ∙ sharp_none_tells w b.first _ right.arc.first_fits none x fits))
+                let set = meet_from (in_span w (span_in b)) (meet (in_masks w (masks_in b)) T) x parts.1 (meet_from (in_masks w (masks_in b)) T x parts.0 test) in
+                absurd (true≢false (sym set ∙ sharp_none_tells w b.first (meet (in_span w (span_in b)) (meet (in_masks w (masks_in b)) T)) right.arc.first_fits none x fits))
           ]))
 
-      pub some_outside : (n : Numbers) → sharp_of w b.first (meet (in_masks w (masks_in b)) (meet (in_span w (span_in b)) T)) ≡ Some n →
-          includes w (in_numbers w a) (in_numbers w b) ≡ false
+      pub some_outside : (n : Numbers) → sharp_in w (span_in b) (meet (in_masks w (masks_in b)) T) ≡ Some n → includes w (in_numbers w a) (in_numbers w b) ≡ false
       some_outside n some =
-          let is = sharp_tells w b.first _ n right.arc.first_fits some in
-          let one = meet_parts (in_masks w (masks_in b)) (meet (in_span w (span_in b)) T) n.first is.first.member in
-          let two = meet_parts (in_span w (span_in b)) T n.first one.1 in
-          includes_fails w (in_numbers w a) (in_numbers w b) n.first is.first.fits (numbers_from w b n.first one.0 two.0)
+          let is = sharp_tells w b.first (meet (in_span w (span_in b)) (meet (in_masks w (masks_in b)) T)) n right.arc.first_fits some in
+          let one = meet_parts (in_span w (span_in b)) (meet (in_masks w (masks_in b)) T) n.first is.first.member in
+          let two = meet_parts (in_masks w (masks_in b)) T n.first one.1 in
+          includes_fails w (in_numbers w a) (in_numbers w b) n.first is.first.fits (numbers_from w b n.first two.0 one.0)
           (untrue _ (λ member.
           let here = (numbers_parts w a n.first member).1 in
           true≢false (sym two.1 ∙ outside_arc n.first is.first.fits ∙ ap not here)))

@@ -1,5 +1,5 @@
 -- The sets of facts and of tests.
-use Rattle.std.proofs.Common.{◌≡◌, ℕ, ◌^◌, Bool, true, false, cond, ◌&&◌, refl, sym, ◌∙◌, ap, Option, Some, None}
+use Rattle.std.proofs.Common.{◌≡◌, ℕ, ◌^◌, Bool, true, false, cond, ◌&&◌, refl, sym, ◌∙◌, ap, arith, Option, Some, None}
 use Rattle.std.specs.Option.{is_some, option_map}
 use Rattle.vfa_dom.specs.Search.{some_below}
 use Rattle.vfa_dom.specs.Sets.{meet, meets}
@@ -17,9 +17,9 @@ use Rattle.vfa_fact.specs.Fact.{in_numbers}
 use Rattle.vfa_fact.specs.Sharp.{sharp_of}
 use Rattle.vfa_fact.specs.Views.{numbers_of, in_fact, in_test}
 
-and_group : (a b c : Bool) → (a && (b && c)) ≡ ((a && b) && c)
-and_group true b c = refl
-and_group false b c = refl
+-- the arc, the cube and a test as the fact and the test
+regrouped : (k r t : Bool) → (r && (k && t)) ≡ ((k && r) && t)
+regrouped k r t = grind arith
 
 and_twice : (a : Bool) → (a && a) ≡ a
 and_twice true = refl
@@ -27,17 +27,17 @@ and_twice false = refl
 
 -- what a fact is sharpened by a test to
 pub sharpened : {W : ℕ} (a : Fact W) (k : Known W) (r : Wrapped W) (t : Test W) (T : ℕ → Bool) → masks_of k ≡ masks_of a.known → span_of r ≡ span_of a.arc →
-    Agree W (in_test W t) T → Agree W (meet (in_known W k) (meet (in_arc W r) (in_test W t))) (meet (in_fact W a) T)
+    Agree W (in_test W t) T → Agree W (meet (in_arc W r) (meet (in_known W k) (in_test W t))) (meet (in_fact W a) T)
 unfolding meet in_numbers
 sharpened {W} a k r t T ek er agree = record {
   alike = λ x hx.
       let one : in_known W k x ≡ in_known W a.known x = ap (λ m. in_masks W m x) ek in
       let two : in_arc W r x ≡ in_arc W a.arc x = ap (λ s. in_span W s x) er in
       let three = agree.alike x hx in
-      ap (λ b. b && (in_arc W r x && in_test W t x)) one
-      ∙ ap (λ b. in_known W a.known x && (b && in_test W t x)) two
-      ∙ ap (λ b. in_known W a.known x && (in_arc W a.arc x && b)) three
-      ∙ and_group (in_known W a.known x) (in_arc W a.arc x) (T x);
+      ap (λ b. b && (in_known W k x && in_test W t x)) two
+      ∙ ap (λ b. in_arc W a.arc x && (b && in_test W t x)) one
+      ∙ ap (λ b. in_arc W a.arc x && (in_known W a.known x && b)) three
+      ∙ regrouped (in_known W a.known x) (in_arc W a.arc x) (T x);
 }
 
 -- the test for the members of a fact

@@ -8,6 +8,11 @@ pub mod FactTests
 pub mod FactPartners
 pub mod Going
 pub mod SharpSets
+pub mod SharpArcs
+pub mod Restricted
+pub mod JoinedCells
+pub mod CellNumbers
+pub mod CutEnds
 pub mod TwoParts
 pub mod Turns
 pub mod CubeCuts

@@ -1,6 +1,6 @@
 -- The unsigned and the signed order as orders that go up from a base.
-use Rattle.std.proofs.Common.{◌≡◌, ℕ, ◌+◌, ◌-◌, ◌^◌, ◌<◌, ◌≤◌, true, false, not, refl, arith, inl, inr, ◌⊎◌, ℤ, pos, negsuc}
-use Rattle.std.specs.Prelude.{nat_lt, nat_le, int_lt, int_le}
+use Rattle.std.proofs.Common.{◌≡◌, ℕ, ◌+◌, ◌-◌, ◌^◌, ◌<◌, ◌≤◌, true, false, refl, arith, inl, inr, ◌⊎◌}
+use Rattle.std.specs.Prelude.{nat_lt, int_lt}
 use Rattle.std.proofs.lemmas.Bool.Decides.{nat_tests}
 use Rattle.std.proofs.lemmas.Nat.{pow_pos}
 use Rattle.vfa_word.specs.Numbers.{signed_of}
@@ -58,13 +58,3 @@ signed_before w x y one hx hy = elim (signed_place w x one hx) [
         (high_high (2 ^ (w - 1)) (2 ^ w) x y _ _ (half_is w one) hx hy high.1 high'.1)
   ]
 ]
-
--- "at most" is "not before" with the sides exchanged
-pub unsigned_most : (x y : ℕ) → nat_le x y ≡ not (nat_lt y x)
-unsigned_most x y = grind (arith, nat_tests)
-
-pub signed_most : (a b : ℤ) → int_le a b ≡ not (int_lt b a)
-signed_most (pos a) (pos b) = unsigned_most a b
-signed_most (pos a) (negsuc b) = refl
-signed_most (negsuc a) (pos b) = refl
-signed_most (negsuc a) (negsuc b) = unsigned_most b a

@@ -1,0 +1,1 @@
+-- Cells of few or of all numbers.

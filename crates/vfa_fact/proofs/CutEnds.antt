@@ -1,0 +1,1 @@
+-- The ends of the members that an operation can use.

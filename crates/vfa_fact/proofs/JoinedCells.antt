@@ -1,0 +1,1 @@
+-- The join of cells, and what a comparison leaves of a cell.
