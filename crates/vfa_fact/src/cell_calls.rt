@@ -192,6 +192,7 @@ impl Cell {
         ensures keeps { (x y : ℕ) → IsTrue (in_cell self.now x) → IsTrue (in_cell other.now y) →
             IsTrue (satisfies self.now.width pred x y) → IsSomeAnd result (λ rest. IsTrue (in_cell rest x)) }
     {
+        let _width = self.width;
         compared(pred, self, other)
     }
 
