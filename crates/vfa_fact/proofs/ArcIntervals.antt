@@ -50,10 +50,10 @@ module _ (w : ℕ) (s : Span) (arc : IsArc w s) (x : ℕ) where
       in_to w s x fits (grind (arith, here, end))
 
 -- a number of a set in an interval
-cut_from : (lo hi : ℕ) (S : ℕ → Bool) (x : ℕ) → lo ≤ x → x ≤ hi → S x ≡ true → meet (interval lo hi) S x ≡ true
+pub cut_from : (lo hi : ℕ) (S : ℕ → Bool) (x : ℕ) → lo ≤ x → x ≤ hi → S x ≡ true → meet (interval lo hi) S x ≡ true
 cut_from lo hi S x from upto member = meet_from (interval lo hi) S x (interval_from lo hi x from upto) member
 
-cut_parts : (lo hi : ℕ) (S : ℕ → Bool) (x : ℕ) → meet (interval lo hi) S x ≡ true → (lo ≤ x) × (x ≤ hi) × (S x ≡ true)
+pub cut_parts : (lo hi : ℕ) (S : ℕ → Bool) (x : ℕ) → meet (interval lo hi) S x ≡ true → (lo ≤ x) × (x ≤ hi) × (S x ≡ true)
 cut_parts lo hi S x member =
     let parts = meet_parts (interval lo hi) S x member in
     let ends = interval_parts lo hi x parts.0 in (ends.0, ends.1, parts.1)

@@ -13,6 +13,7 @@ pub mod Restricted
 pub mod JoinedCells
 pub mod CellNumbers
 pub mod CutEnds
+pub mod HalvedEnds
 pub mod TwoParts
 pub mod Turns
 pub mod CubeCuts

@@ -1,7 +1,7 @@
-ghost use Rattle.std.specs.Prelude.{◌≡◌, ◌≢◌, ℕ, ◌-◌, ◌<◌, ◌≤◌, ◌^◌, IsTrue, IsSomeAnd, IfSome, MatchOption};
+ghost use Rattle.std.specs.Prelude.{◌≡◌, ◌≢◌, ℕ, ◌-◌, ◌<◌, ◌≤◌, ◌^◌, false, IsTrue, IsSomeAnd, IfSome, MatchOption};
 ghost use Rattle.std.specs.Int.{bit_at};
 ghost use Rattle.std.specs.Option.{option_map};
-ghost use Rattle.vfa_dom.specs.Search.{flag};
+ghost use Rattle.vfa_dom.specs.Search.{bits_below};
 ghost use Rattle.vfa_dom.specs.Sets.{meet, is_empty};
 ghost use Rattle.vfa_fact.specs.Cuts.{ends_in, amounts_of, divisors_of, shown_amounts};
 ghost use Rattle.vfa_fact.specs.Fact.{IsFact};
@@ -69,6 +69,7 @@ impl<const W: u32> Fact<W> {
 
     /// The mask of the members from `low` up to `high`, below which and above which no member is an amount.
     fn mask_between(&self, low: u32, high: u32) -> u128
+        requires order { low ≤ high }
         requires below { high < W }
         requires none_below { (t : ℕ) → t < low → in_fact W self.now t ≡ false }
         requires none_above { (t : ℕ) → high < t → t < W → in_fact W self.now t ≡ false }

@@ -32,11 +32,9 @@ impl Numbers {
         ensures { (w : ℕ) → self.now.first < 2 ^ w → self.now.last < 2 ^ w → bits < 2 ^ w →
             result ≡ in_span w (span_in self.now) bits }
     {
-        let after = self.first <= bits;
-        let before = bits <= self.last;
         if self.first <= self.last {
-            return after && before;
+            return self.first <= bits && bits <= self.last;
         }
-        after || before
+        self.first <= bits || bits <= self.last
     }
 }
