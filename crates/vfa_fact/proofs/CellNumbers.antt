@@ -107,10 +107,34 @@ pub by_span : (w : ℕ) (n : Numbers) (x : ℕ) → in_masks w (masks_in n) x �
 unfolding in_numbers
 by_span w n x member = ap (λ (b : Bool). b && in_span w (span_in n) x) member
 
+option_fits : (w : ℕ) (o : Option Numbers) (x : ℕ) → in_option w o x ≡ true → x < 2 ^ w
+unfolding in_option
+option_fits w None x member = absurd (true≢false (sym member))
+option_fits w (Some n) x member = in_numbers_fits w n x member
+
 pub cell_fits : (v : CellValue) (x : ℕ) → IsTrue (in_cell v x) → x < 2 ^ v.width
 cell_fits v x member = option_fits v.width v.numbers x member
-  where
-    option_fits : (w : ℕ) (o : Option Numbers) (x : ℕ) → in_option w o x ≡ true → x < 2 ^ w
-    unfolding in_option
-    option_fits w None x member = absurd (true≢false (sym member))
-    option_fits w (Some n) x member = in_numbers_fits w n x member
+
+-- ---- the only number of a cell
+
+pub no_single : (v : CellValue) → v.numbers ≡ None → single_of v.width (in_cell v) ≡ None
+no_single v none = single_of_empty v.width (in_cell v) (λ x fits. none_in v x none)
+
+of_numbers : (w : ℕ) (n : Numbers) → single_of w (in_option w (Some n)) ≡ single_of w (in_numbers w n)
+unfolding in_option
+of_numbers w n = refl
+
+pub single_in : (v : CellValue) (n : Numbers) → IsFact v.width n → v.numbers ≡ Some n → single_of v.width (in_cell v) ≡ single_of v.width (in_span v.width (span_in n))
+single_in v n fact some = ap (λ (o : Option Numbers). single_of v.width (in_option v.width o)) some ∙ of_numbers v.width n ∙ sym (single_same v.width n fact)
+
+pub single_at : (v : CellValue) (n : Numbers) → IsFact v.width n → v.numbers ≡ Some n → n.first ≡ n.last → single_of v.width (in_cell v) ≡ Some n.first
+single_at v n fact some same = single_in v n fact some ∙ single_first v.width (span_in n) fact.arc same
+
+pub single_not : (v : CellValue) (n : Numbers) → IsFact v.width n → v.numbers ≡ Some n → (n.first ≡ n.last → ⊥) → single_of v.width (in_cell v) ≡ None
+single_not v n fact some other = single_in v n fact some ∙ single_none v.width (span_in n) fact.arc other
+
+pub single_tells : (v : CellValue) (answer : Option ℕ) → answer ≡ single_of v.width (in_cell v) → (x : ℕ) →
+    (answer ≡ Some x) ↔ ((y : ℕ) → IsTrue (in_cell v y) ↔ (y ≡ x))
+single_tells v answer same x =
+    let exact = single_of_exact v.width (in_cell v) (cell_fits v) x in
+    ((λ is. exact.0 (sym same ∙ is)), (λ only. same ∙ exact.1 only))

@@ -14,6 +14,7 @@ pub mod JoinedCells
 pub mod CellNumbers
 pub mod CutEnds
 pub mod HalvedEnds
+pub mod EndsOfCells
 pub mod TwoParts
 pub mod Turns
 pub mod CubeCuts

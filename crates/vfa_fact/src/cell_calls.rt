@@ -4,6 +4,7 @@ ghost use Rattle.std.specs.Option.{option_map};
 ghost use Rattle.vfa_fact.specs.Cells.{IsCell, in_cell, joined_numbers, joined_cells, decided_cells, compared_cells};
 ghost use Rattle.vfa_fact.specs.CellCuts.{shown_cell_ends, shown_cell_amounts, cell_ends, cell_amounts, cell_divisors};
 ghost use Rattle.vfa_fact.specs.Compare.{satisfies};
+ghost use Rattle.vfa_word.specs.Numbers.{IsWidth};
 ghost use Rattle.vfa_wrap.specs.Between.{Between, AreEnds};
 ghost use Rattle.vfa_wrap.specs.Ends.{shown_ends};
 ghost use Rattle.vfa_wrap.specs.Rows.{AreAmounts, AreDivisors};
@@ -119,32 +120,40 @@ fn divisors_at<const W: u32>(a: &Cell) -> Option<CellEnds>
 }
 
 /// What the comparison leaves of the first of two cells of one width.
-fn compared(pred: Pred, a: &Cell, b: &Cell) -> Option<Cell>
-    requires { a.now.width ≡ b.now.width }
+fn compared(width: u32, pred: Pred, a: &Cell, b: &Cell) -> Option<Cell>
+    requires width { IsWidth width }
+    requires left { a.now.width ≡ width }
+    requires right { b.now.width ≡ width }
     ensures { result ≡ compared_cells pred a.now b.now }
 {
-    at_width!(a.width, compare_at, (pred, a, b))
+    at_width!(width, compare_at, (pred, a, b))
 }
 
-/// The ends of the numbers of the cell.
-fn ends_by_width(a: &Cell) -> Option<CellEnds>
+/// The ends of the numbers of a cell.
+fn ends_by_width(width: u32, a: &Cell) -> Option<CellEnds>
+    requires width { IsWidth width }
+    requires cell { a.now.width ≡ width }
     ensures { option_map shown_cell_ends result ≡ cell_ends a.now }
 {
-    at_width!(a.width, ends_at, (a))
+    at_width!(width, ends_at, (a))
 }
 
-/// The amounts among the numbers of the cell.
-fn amounts_by_width(a: &Cell) -> Option<CellAmounts>
+/// The amounts among the numbers of a cell.
+fn amounts_by_width(width: u32, a: &Cell) -> Option<CellAmounts>
+    requires width { IsWidth width }
+    requires cell { a.now.width ≡ width }
     ensures { option_map shown_cell_amounts result ≡ cell_amounts a.now }
 {
-    at_width!(a.width, amounts_at, (a))
+    at_width!(width, amounts_at, (a))
 }
 
-/// The ends of the divisors among the numbers of the cell.
-fn divisors_by_width(a: &Cell) -> Option<CellEnds>
+/// The ends of the divisors among the numbers of a cell.
+fn divisors_by_width(width: u32, a: &Cell) -> Option<CellEnds>
+    requires width { IsWidth width }
+    requires cell { a.now.width ≡ width }
     ensures { option_map shown_cell_ends result ≡ cell_divisors a.now }
 {
-    at_width!(a.width, divisors_at, (a))
+    at_width!(width, divisors_at, (a))
 }
 
 impl Cell {
@@ -192,8 +201,7 @@ impl Cell {
         ensures keeps { (x y : ℕ) → IsTrue (in_cell self.now x) → IsTrue (in_cell other.now y) →
             IsTrue (satisfies self.now.width pred x y) → IsSomeAnd result (λ rest. IsTrue (in_cell rest x)) }
     {
-        let _width = self.width;
-        compared(pred, self, other)
+        compared(self.width, pred, self, other)
     }
 
     /// The least and greatest numbers of the cell, and the least and greatest signed readings of its numbers; None
@@ -207,7 +215,7 @@ impl Cell {
         ensures between { (x : ℕ) → IsTrue (in_cell self.now x) →
             IsSomeAnd result (λ e. Between self.now.width (shown_cell_ends e) x) }
     {
-        ends_by_width(self)
+        ends_by_width(self.width, self)
     }
 
     /// The numbers of the cell below its width, which are the amounts by which a shift is possible; None exactly where there
@@ -220,7 +228,7 @@ impl Cell {
         ensures covers { (t : ℕ) → t < self.now.width → IsTrue (in_cell self.now t) →
             IsSomeAnd result (λ a. Between self.now.width (shown_cell_ends a.ends) t × (bit_at a.mask t ≡ 1)) }
     {
-        amounts_by_width(self)
+        amounts_by_width(self.width, self)
     }
 
     /// The ends of the numbers of the cell other than 0, by which a division is possible; None exactly where there is none.
@@ -232,7 +240,7 @@ impl Cell {
         ensures covers { (y : ℕ) → y ≢ 0 → IsTrue (in_cell self.now y) →
             IsSomeAnd result (λ e. Between self.now.width (shown_cell_ends e) y) }
     {
-        divisors_by_width(self)
+        divisors_by_width(self.width, self)
     }
 }
 
