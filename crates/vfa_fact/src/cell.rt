@@ -29,7 +29,7 @@ pub enum Parts {
 }
 
 /// The least and greatest numbers of a cell, and the least and greatest signed readings of its numbers.
-#[derive(Clone, Copy)]
+#[derive(Clone, Copy, PartialEq, Eq)]
 pub struct CellEnds {
     /// The least number.
     pub lo: u128,
@@ -42,7 +42,7 @@ pub struct CellEnds {
 }
 
 /// Numbers of a cell below its width, by which a shift is possible.
-#[derive(Clone, Copy)]
+#[derive(Clone, Copy, PartialEq, Eq)]
 pub struct CellAmounts {
     /// Bit t says that the amount t is possible.
     pub mask: u128,

@@ -111,3 +111,6 @@ impl<const W: u32> Fact<W> {
         self.ends_between(1, most::<W>())
     }
 }
+
+#[cfg(test)]
+mod tests;

@@ -2,6 +2,7 @@ ghost use Rattle.std.specs.Prelude.{IsTrue};
 ghost use Rattle.vfa_word.specs.Numbers.{IsWidth};
 
 use super::*;
+use std::alloc::{AllocError, Global};
 use std::process::Abort;
 use std::test::Fail;
 use vfa_dom::{Domain, SetOf};
@@ -39,8 +40,61 @@ pub(crate) fn shown<const W: u32>(fact: &Fact<W>) -> Numbers {
     }
 }
 
-/// The same numbers, by a list of all numbers of the width, going up from the arc's first.
-fn listed<const W: u32>(known: &Known<W>, arc: &Wrapped<W>, test: &Test<W>) -> Option<Numbers>
+/// The fact that has these numbers; None where there is none.
+fn fact_of<const W: u32>(numbers: &Numbers) -> Option<Fact<W>>
+    requires { IsWidth W }
+{
+    let known = Known::new(numbers.zeros, numbers.ones)?;
+    let arc = Wrapped::new(Word::cut(numbers.first), Word::cut(numbers.last));
+    let fact = Fact::sharp(known, arc, &Test::inside(arc))?;
+    if shown(&fact) != *numbers {
+        return None;
+    }
+    Some(fact)
+}
+
+/// Adds the facts with these masks.
+fn add_facts<const W: u32>(
+    facts: &mut Vec<Fact<W>>,
+    zeros: u128,
+    ones: u128,
+) -> Result<(), AllocError>
+    requires { IsWidth W }
+{
+    let most = most::<W>();
+    'firsts: for first in 0..=most {
+        'lasts: for last in 0..=most {
+            let numbers = Numbers {
+                zeros,
+                ones,
+                first,
+                last,
+            };
+            if let Some(fact) = fact_of(&numbers) {
+                facts.push(fact)?;
+            }
+        }
+    }
+    Ok(())
+}
+
+/// Each fact of a width, once.
+pub(crate) fn all_facts<const W: u32>(alloc: Global) -> Result<Vec<Fact<W>>, AllocError>
+    requires { IsWidth W }
+{
+    let most = most::<W>();
+    let mut facts = Vec::new(alloc);
+    'zeros: for zeros in 0..=most {
+        'ones: for ones in 0..=most {
+            add_facts(&mut facts, zeros, ones)?;
+        }
+    }
+    Ok(facts)
+}
+
+/// The numbers of the fact of the numbers that agree, lie in the arc and pass, by a list of all numbers of the width, going
+/// up from the arc's first.
+pub(crate) fn listed<const W: u32>(known: &Known<W>, arc: &Wrapped<W>, test: &Test<W>) -> Option<Numbers>
     requires { IsWidth W }
 {
     let most = most::<W>();

@@ -29,6 +29,23 @@ fn joins_numbers_and_marks(rt: HostRuntime) {
 }
 
 #[test]
+fn joins_only_poison(rt: HostRuntime) {
+    let poison = Cell::none(8);
+    let five = Cell::literal(8, 5);
+    assert!(rt; !poison.never_poison && five.never_poison);
+    let left = poison.join(&five);
+    assert_eq!(rt; left.single(), Some(5));
+    assert!(rt; !left.never_poison);
+    let right = five.join(&poison);
+    assert_eq!(rt; right.single(), Some(5));
+    assert!(rt; !right.never_poison);
+    let none = poison.join(&poison);
+    assert!(rt; none.numbers.is_none() && !none.never_poison);
+    let same = five.join(&five);
+    assert!(rt; same.never_poison && same.numbers == five.numbers);
+}
+
+#[test]
 fn compares_and_decides(rt: HostRuntime) {
     let wide = Cell::of(&between(0, 200), false);
     let small = Cell::of(&between(9, 20), false);

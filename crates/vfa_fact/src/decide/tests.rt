@@ -1,13 +1,11 @@
 ghost use Rattle.vfa_word.specs.Numbers.{IsWidth};
 
-use crate::tests::shown;
+use crate::tests::{all_facts, shown};
 use crate::{Fact, Numbers, Test};
-use std::alloc::{AllocError, Global};
 use std::process::Abort;
 use std::test::Fail;
 use vfa_dom::{Domain, SetOf};
 use vfa_ir::Pred;
-use vfa_known::Known;
 use vfa_word::{Word, most};
 use vfa_wrap::Wrapped;
 
@@ -18,58 +16,6 @@ fn between<const W: u32>(rt: &impl Abort, first: u128, last: u128) -> Fact<W>
     let arc = Wrapped::new(Word::cut(first), Word::cut(last));
     let any: Fact<W> = Fact::any();
     Fact::sharp(any.known(), arc, &Test::inside(arc)).expect(rt, "an arc has numbers")
-}
-
-/// The fact that has these numbers; None where there is none.
-fn fact_of<const W: u32>(numbers: &Numbers) -> Option<Fact<W>>
-    requires { IsWidth W }
-{
-    let known = Known::new(numbers.zeros, numbers.ones)?;
-    let arc = Wrapped::new(Word::cut(numbers.first), Word::cut(numbers.last));
-    let fact = Fact::sharp(known, arc, &Test::inside(arc))?;
-    if shown(&fact) != *numbers {
-        return None;
-    }
-    Some(fact)
-}
-
-/// Adds the facts with these masks.
-fn add_facts<const W: u32>(
-    facts: &mut Vec<Fact<W>>,
-    zeros: u128,
-    ones: u128,
-) -> Result<(), AllocError>
-    requires { IsWidth W }
-{
-    let most = most::<W>();
-    'firsts: for first in 0..=most {
-        'lasts: for last in 0..=most {
-            let numbers = Numbers {
-                zeros,
-                ones,
-                first,
-                last,
-            };
-            if let Some(fact) = fact_of(&numbers) {
-                facts.push(fact)?;
-            }
-        }
-    }
-    Ok(())
-}
-
-/// Each fact of a width, once.
-fn all_facts<const W: u32>(alloc: Global) -> Result<Vec<Fact<W>>, AllocError>
-    requires { IsWidth W }
-{
-    let most = most::<W>();
-    let mut facts = Vec::new(alloc);
-    'zeros: for zeros in 0..=most {
-        'ones: for ones in 0..=most {
-            add_facts(&mut facts, zeros, ones)?;
-        }
-    }
-    Ok(facts)
 }
 
 /// Whether the comparison of two numbers is true.
