@@ -192,6 +192,38 @@ fn restrict<const W: u32>(facts: &[Fact<W>], by: &Fact<W>) -> u128
     sum
 }
 
+fn amounts<const W: u32>(facts: &[Fact<W>], by: &Fact<W>) -> u128
+    requires { IsWidth W }
+{
+    let mut sum = by.arc().first().bits();
+    'each: for fact in facts {
+        if let Some(amounts) = fact.amounts() {
+            sum = sum.wrapping_add(amounts.mask);
+        }
+    }
+    sum
+}
+
+fn divisors<const W: u32>(facts: &[Fact<W>], by: &Fact<W>) -> u128
+    requires { IsWidth W }
+{
+    let mut sum = by.arc().first().bits();
+    'each: for fact in facts {
+        if let Some(ends) = fact.divisors() {
+            sum = sum.wrapping_add(ends.lo);
+        }
+    }
+    sum
+}
+
+fn join_same(cells: &[Cell], by: &Cell) -> u128 {
+    let mut sum = cell_weight(&Some(*by));
+    'each: for cell in cells {
+        sum = sum.wrapping_add(cell_weight(&Some(cell.join(cell))));
+    }
+    sum
+}
+
 fn join_cells(cells: &[Cell], by: &Cell) -> u128 {
     let mut sum = 0u128;
     'each: for cell in cells {
@@ -243,7 +275,10 @@ fn measure<const W: u32>(rt: &HostRuntime) -> io::Result<()>
     measure!(rt, "join", W, facts, join);
     measure!(rt, "decide", W, facts, decide);
     measure!(rt, "restrict", W, facts, restrict);
+    measure!(rt, "amounts", W, facts, amounts);
+    measure!(rt, "divisors", W, facts, divisors);
     let cells = cells(rt.alloc(), &facts)?;
+    measure!(rt, "join with self", W, cells, join_same);
     measure!(rt, "join of cells", W, cells, join_cells);
     measure!(rt, "compare cells", W, cells, compare_cells);
     Ok(())
