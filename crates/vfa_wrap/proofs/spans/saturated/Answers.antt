@@ -1,0 +1,6 @@
+use Rattle.std.proofs.Common.{◌≡◌}
+use Rattle.vfa_wrap.specs.Ends.{shown_ends}
+use Rattle.vfa_wrap.proofs.spans.saturated.Goals as goal
+
+pub returns : goal.returns
+returns g c = c.clamped.ensures _ c.places.ensures
