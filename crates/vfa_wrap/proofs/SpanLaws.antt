@@ -1,19 +1,18 @@
 -- Spans of whole results: each result lies between their ends, both ends are results, and what that tells of the range of
 -- the width.
-use Rattle.std.proofs.Common.{◌≡◌, ℕ, zero, suc, ◌+◌, ◌-◌, ◌*◌, ◌%◌, ◌^◌, ◌<◌, ◌≤◌, min, Bool, true, false, not, cond, ℤ, pos, negsuc, refl, sym, ◌∙◌, ap, subst, arith, rules, ◌⊎◌, inl, inr, Option, Some, None}
-use Rattle.std.specs.Prelude.{◌≤ℤ◌, ◌<ℤ◌, ◌+ℤ◌, ◌-ℤ◌, ◌*ℤ◌, int_lt, nat_lt, ◌||◌, ◌&&◌, IsTrue, IsSomeAnd, IsNone, IfSome, ◌↔◌}
-use Rattle.std.specs.Int.{int_min, int_max}
+use Rattle.std.proofs.Common.{◌≡◌, ℕ, suc, ◌-◌, ◌*◌, ◌%◌, ◌^◌, ◌<◌, ◌≤◌, Bool, true, false, not, cond, ℤ, pos, negsuc, refl, sym, ◌∙◌, ap, subst, arith, rules, ◌⊎◌, inl, inr, Option, Some, None}
+use Rattle.std.specs.Prelude.{◌≤ℤ◌, ◌+ℤ◌, ◌-ℤ◌, ◌*ℤ◌, int_lt, ◌||◌, IsTrue, IsSomeAnd, IsNone, IfSome, ◌↔◌}
+use Rattle.std.specs.Int.{int_max}
 use Rattle.std.specs.Option.{option_map}
 use Rattle.std.proofs.lemmas.Bool.{cases_Bool, true≢false, and_parts, and_from}
-use Rattle.std.proofs.lemmas.Bool.Decides.{nat_tests}
 use Rattle.std.proofs.lemmas.Int.{ints, clamps}
 use Rattle.std.proofs.lemmas.Nat.{pow_pos, mul-le}
 use Rattle.std.proofs.Math.Nat.{mod-eq_of_lt}
 use Rattle.std.proofs.Math.Pow.{pow_mono}
 use Rattle.vfa_word.proofs.Wrapping.{wrap_below}
 use Rattle.vfa_word.proofs.Readings.{below_power}
-use Rattle.vfa_word.specs.Numbers.{wrap, signed_of, fits_unsigned, fits_signed}
-use Rattle.vfa_word.specs.Operations.{whole_unsigned, whole_signed, clamped_unsigned, clamped_signed}
+use Rattle.vfa_word.specs.Numbers.{wrap}
+use Rattle.vfa_word.specs.Operations.{clamped_unsigned, clamped_signed}
 use Rattle.vfa_word.specs.declared.arith.Arith.{Arith}
 use Rattle.vfa_word.specs.declared.arith.Arith.TheVariants.{Add, Sub, Mul, Shl}
 use Rattle.vfa_wrap.specs.Arc.{Span, in_span, arc_from}
@@ -138,19 +137,28 @@ whole_shift Signed w x t n p e f = λ i. e i *ℤ pos (2 ^ f i)
 module _ (r : Reading) (w : ℕ) (a b : EndsOf) where
   sum_at : (p q : ℤ) → Reaches r w a p → Reaches r w b q → IsWhole Add r w a b (p +ℤ q)
   sum_at p q h k = record {
-    left = h.at; right = k.at; left_between = h.between; right_between = k.between;
+    left = h.at;
+    right = k.at;
+    left_between = h.between;
+    right_between = k.between;
     is = whole_sum r w h.at k.at p q h.reads k.reads;
   }
 
   difference_at : (p q : ℤ) → Reaches r w a p → Reaches r w b q → IsWhole Sub r w a b (p -ℤ q)
   difference_at p q h k = record {
-    left = h.at; right = k.at; left_between = h.between; right_between = k.between;
+    left = h.at;
+    right = k.at;
+    left_between = h.between;
+    right_between = k.between;
     is = whole_difference r w h.at k.at p q h.reads k.reads;
   }
 
   product_at : (p q : ℤ) → Reaches r w a p → Reaches r w b q → IsWhole Mul r w a b (p *ℤ q)
   product_at p q h k = record {
-    left = h.at; right = k.at; left_between = h.between; right_between = k.between;
+    left = h.at;
+    right = k.at;
+    left_between = h.between;
+    right_between = k.between;
     is = whole_product r w h.at k.at p q h.reads k.reads;
   }
 
@@ -161,11 +169,17 @@ module _ (r : Reading) (w : ℕ) (a b : EndsOf) where
 
   shift_at : (c : Bool) (p : ℤ) (t u : ℕ) → Reaches r w a p → Between w b t → Between w b u → IsWhole Shl r w a b (p *ℤ pos (2 ^ cond c t u))
   shift_at true p t u h k l = record {
-    left = h.at; right = t; left_between = h.between; right_between = k;
+    left = h.at;
+    right = t;
+    left_between = h.between;
+    right_between = k;
     is = whole_shift r w h.at t t p h.reads refl;
   }
   shift_at false p t u h k l = record {
-    left = h.at; right = u; left_between = h.between; right_between = l;
+    left = h.at;
+    right = u;
+    left_between = h.between;
+    right_between = l;
     is = whole_shift r w h.at u u p h.reads refl;
   }
 
@@ -337,8 +351,7 @@ meets_at : (r : Reading) (w : ℕ) (s : WholeSpan) → s.least ≤ℤ s.most →
 unfolding misses_range
 meets_at r w s h e =
     let parts = or_false (int_lt s.most (range_of r w).least) (int_lt (range_of r w).most s.least) e in
-    let full = ordered r w in
-    (
+    let full = ordered r w in (
       int_max s.least (range_of r w).least,
       omega (arith, ints, clamps),
       omega (arith, ints, clamps, h, parts.0),

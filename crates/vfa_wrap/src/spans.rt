@@ -47,8 +47,18 @@ fn sum_places<const W: u32>(reading: Reading, a: &Ends<W>, b: &Ends<W>) -> Place
     ensures { result ≡ places_of reading W (span_of_results Arith.Add reading (shown_ends a.now) (shown_ends b.now)) }
 {
     Places {
-        least: result_place(reading, Arith::Add, least_of(reading, a), least_of(reading, b)),
-        most: result_place(reading, Arith::Add, most_of(reading, a), most_of(reading, b)),
+        least: result_place(
+            reading,
+            Arith::Add,
+            least_of(reading, a),
+            least_of(reading, b),
+        ),
+        most: result_place(
+            reading,
+            Arith::Add,
+            most_of(reading, a),
+            most_of(reading, b),
+        ),
     }
 }
 
@@ -60,8 +70,18 @@ fn difference_places<const W: u32>(reading: Reading, a: &Ends<W>, b: &Ends<W>) -
     ensures { result ≡ places_of reading W (span_of_results Arith.Sub reading (shown_ends a.now) (shown_ends b.now)) }
 {
     Places {
-        least: result_place(reading, Arith::Sub, least_of(reading, a), most_of(reading, b)),
-        most: result_place(reading, Arith::Sub, most_of(reading, a), least_of(reading, b)),
+        least: result_place(
+            reading,
+            Arith::Sub,
+            least_of(reading, a),
+            most_of(reading, b),
+        ),
+        most: result_place(
+            reading,
+            Arith::Sub,
+            most_of(reading, a),
+            least_of(reading, b),
+        ),
     }
 }
 
@@ -74,8 +94,18 @@ fn unsigned_product_places<const W: u32>(a: &Ends<W>, b: &Ends<W>) -> Places
 {
     let reading = Reading::Unsigned;
     Places {
-        least: result_place(reading, Arith::Mul, least_of(reading, a), least_of(reading, b)),
-        most: result_place(reading, Arith::Mul, most_of(reading, a), most_of(reading, b)),
+        least: result_place(
+            reading,
+            Arith::Mul,
+            least_of(reading, a),
+            least_of(reading, b),
+        ),
+        most: result_place(
+            reading,
+            Arith::Mul,
+            most_of(reading, a),
+            most_of(reading, b),
+        ),
     }
 }
 
@@ -177,12 +207,7 @@ pub fn fits<const W: u32>(op: Arith, reading: Reading, a: &Ends<W>, b: &Ends<W>)
 /// below `W`. As ConstantRange::unsignedAddMayOverflow and its kind.
 ///
 /// At `W` = 8 the unsigned sums of 200 to 210 and 100 to 105, which are 300 to 315, give yes.
-pub fn overflow<const W: u32>(
-    op: Arith,
-    reading: Reading,
-    a: &Ends<W>,
-    b: &Ends<W>,
-) -> Option<bool>
+pub fn overflow<const W: u32>(op: Arith, reading: Reading, a: &Ends<W>, b: &Ends<W>) -> Option<bool>
     requires width { IsWidth W }
     requires left { AreEnds W (shown_ends a.now) }
     requires right { AreOperandEnds op W (shown_ends b.now) }
