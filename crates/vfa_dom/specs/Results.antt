@@ -54,7 +54,38 @@ pub record GivesDigit (w : ℕ) (op : ℕ → ℕ → ℕ) (A B : ℕ → Bool) 
   pub right_in : IsTrue (B right)
   pub gives : bit_at (op left right) i ≡ digit
 
--- for each bit below w that the masks leave unknown there are operands that give 0 there, and others that give 1
-pub record UnknownBitsVary (w : ℕ) (op : ℕ → ℕ → ℕ) (A B : ℕ → Bool) (masks : Masks) : Type 0 where
-  pub gives_zero : (i : ℕ) → i < w → bit_at masks.zeros i ≡ 0 → bit_at masks.ones i ≡ 0 → GivesDigit w op A B i 0
-  pub gives_one : (i : ℕ) → i < w → bit_at masks.zeros i ≡ 0 → bit_at masks.ones i ≡ 0 → GivesDigit w op A B i 1
+-- an operand of A whose image has this digit at place i
+pub record ImageGivesDigit (v : ℕ) (f : ℕ → ℕ) (A : ℕ → Bool) (i digit : ℕ) : Type 0 where
+  pub from : ℕ
+  pub fits : from < 2 ^ v
+  pub from_in : IsTrue (A from)
+  pub gives : bit_at (f from) i ≡ digit
+
+-- an operand of A and an amount of the mask whose result has this digit at place i
+pub record AmountGivesDigit (w : ℕ) (op : ℕ → ℕ → ℕ) (A : ℕ → Bool) (amounts i digit : ℕ) : Type 0 where
+  pub from : ℕ
+  pub amount : ℕ
+  pub from_fits : from < 2 ^ w
+  pub amount_fits : amount < w
+  pub from_in : IsTrue (A from)
+  pub amount_in : bit_at amounts amount ≡ 1
+  pub gives : bit_at (op from amount) i ≡ digit
+
+-- for each bit below w that the masks leave unknown there is what gives a 0 there, and what gives a 1
+pub record BitsVary (w : ℕ) (Gives : ℕ → ℕ → Type 0) (masks : Masks) : Type 0 where
+  pub gives_zero : (i : ℕ) → i < w → bit_at masks.zeros i ≡ 0 → bit_at masks.ones i ≡ 0 → Gives i 0
+  pub gives_one : (i : ℕ) → i < w → bit_at masks.zeros i ≡ 0 → bit_at masks.ones i ≡ 0 → Gives i 1
+
+-- for each bit left unknown there are operands that give 0 there, and others that give 1: of an operation, of a function
+-- from width v, of an operation by an amount, and of a set as it is
+abbrev pub UnknownBitsVary : ℕ → (ℕ → ℕ → ℕ) → (ℕ → Bool) → (ℕ → Bool) → Masks → Type 0
+UnknownBitsVary w op A B masks = BitsVary w (GivesDigit w op A B) masks
+
+abbrev pub UnknownImagesVary : ℕ → ℕ → (ℕ → ℕ) → (ℕ → Bool) → Masks → Type 0
+UnknownImagesVary w v f A masks = BitsVary w (ImageGivesDigit v f A) masks
+
+abbrev pub UnknownShiftsVary : ℕ → (ℕ → ℕ → ℕ) → (ℕ → Bool) → ℕ → Masks → Type 0
+UnknownShiftsVary w op A amounts masks = BitsVary w (AmountGivesDigit w op A amounts) masks
+
+abbrev pub UnknownMembersVary : ℕ → (ℕ → Bool) → Masks → Type 0
+UnknownMembersVary w S masks = UnknownImagesVary w w (λ x. x) S masks

@@ -1,6 +1,6 @@
 -- Sums bit by bit: the carries into a bit lie between those of the least and of the greatest choice of the unknown
 -- bits below it.
-use Rattle.std.proofs.Common.{◌≡◌, ℕ, ◌+◌, ◌-◌, ◌*◌, ◌/◌, ◌%◌, ◌^◌, ◌<◌, ◌≤◌, min, max, Bool, add-zero, refl, sym, ◌∙◌, ap, subst, arith, ◌⊎◌, inl, inr, bit_and, bit_or, bit_xor}
+use Rattle.std.proofs.Common.{◌≡◌, ℕ, ◌+◌, ◌-◌, ◌*◌, ◌/◌, ◌%◌, ◌^◌, ◌<◌, ◌≤◌, min, max, Bool, add-zero, refl, sym, ◌∙◌, ap, subst, arith, ◌⊎◌, inl, inr, bit_and, bit_or, bit_xor, pos, ◌-ℤ◌}
 use Rattle.std.specs.Int.{bit_at}
 use Rattle.std.specs.Int.Bits.{or_zero_r}
 use Rattle.std.proofs.Math.Nat.{add-mul-div_right, div-mul-le_self, mul-add-mod_self_right}
@@ -10,7 +10,9 @@ use Rattle.std.proofs.lemmas.Nat.Bits.{bit_at-lt, bit_at_and, bit_at_or, bit_at_
 use Rattle.vfa_dom.specs.Best.{Masks, IsBest}
 use Rattle.vfa_dom.proofs.Bests.{digit_cases, HasDigit}
 use Rattle.vfa_dom.specs.Results.{IsResult}
-use Rattle.vfa_dom.proofs.ResultSets.{StaysIn, IsBest-alike}
+use Rattle.vfa_dom.proofs.ResultSets.{StaysIn, IsBest-alike, IsResult-alike}
+use Rattle.vfa_word.specs.Operations.{sum_of, difference_of}
+use Rattle.vfa_word.proofs.Wrapping.{wrap_below, wrap_difference_is}
 use Rattle.vfa_known.specs.Cube.{IsCube, InCube, in_masks}
 use Rattle.vfa_known.proofs.Cubes.{apart_at, ones_in, with_bit_in, with_bit_at, IsCubeResult, cube_result, result_cube}
 use Rattle.vfa_known.proofs.Members.{turned_at, turned_fits, turned_sums, complement_at, subset_from}
@@ -582,11 +584,11 @@ module _ (w most : ℕ) (a b : Masks) (top : most + 1 ≡ 2 ^ w) (right_cube : I
 pub sum_stays : (w c : ℕ) → StaysIn w (λ x y. (x + y + c) % 2 ^ w)
 sum_stays w c = record { fits = λ x y left right. mod_below (x + y + c) (2 ^ w) (pow_pos w) }
 
-pub add_stays : (w : ℕ) → StaysIn w (λ x y. (x + y) % 2 ^ w)
+pub add_stays : (w : ℕ) → StaysIn w (sum_of w)
 add_stays w = record { fits = λ x y left right. mod_below (x + y) (2 ^ w) (pow_pos w) }
 
-pub sub_stays : (w : ℕ) → StaysIn w (λ x y. (x + (2 ^ w - y)) % 2 ^ w)
-sub_stays w = record { fits = λ x y left right. mod_below (x + (2 ^ w - y)) (2 ^ w) (pow_pos w) }
+pub sub_stays : (w : ℕ) → StaysIn w (difference_of w)
+sub_stays w = record { fits = λ x y left right. wrap_below w (pos x -ℤ pos y) }
 
 -- ---- from the sum with a carry to sums and differences
 
@@ -614,10 +616,14 @@ sum_without_carry w A B zeros ones best = IsBest-alike w
     })
     best
 
+-- the difference round the circle of the numbers below 2 ^ w
+difference_on_circle : (w x y : ℕ) → y < 2 ^ w → (x + (2 ^ w - y)) % 2 ^ w ≡ difference_of w x y
+difference_on_circle w x y fits = sym (wrap_difference_is w x y (omega arith))
+
 pub difference_best : (w : ℕ) (a b turned : Masks) (zeros ones : ℕ) → turned ≡ record { zeros = b.ones; ones = b.zeros } →
     IsCube w a.zeros a.ones → IsCube w b.zeros b.ones →
     IsBest w (IsResult w (λ x y. (x + y + 1) % 2 ^ w) (in_masks w a) (in_masks w turned)) zeros ones →
-    IsBest w (IsResult w (λ x y. (x + (2 ^ w - y)) % 2 ^ w) (in_masks w a) (in_masks w b)) zeros ones
+    IsBest w (IsResult w (difference_of w) (in_masks w a) (in_masks w b)) zeros ones
 difference_best w a b turned zeros ones same left_cube right_cube best =
     let swap : Masks = record { zeros = b.ones; ones = b.zeros } in
     let swapped : IsCube w b.ones b.zeros = record {
@@ -630,11 +636,15 @@ difference_best w a b turned zeros ones same left_cube right_cube best =
     subst (λ m. IsBest w (IsResult w (λ x y. (x + y + 1) % 2 ^ w) (in_masks w a) (in_masks w m)) zeros ones) same best in
     IsBest-alike w
     (IsResult w (λ x y. (x + y + 1) % 2 ^ w) (in_masks w a) (in_masks w (record { zeros = b.ones; ones = b.zeros })))
-    (IsResult w (λ x y. (x + (2 ^ w - y)) % 2 ^ w) (in_masks w a) (in_masks w b)) zeros ones
-    (λ r result. cube_result w (λ x y. (x + (2 ^ w - y)) % 2 ^ w) a b left_cube right_cube r
+    (IsResult w (difference_of w) (in_masks w a) (in_masks w b)) zeros ones
+    (λ r result. IsResult-alike w (λ x y. (x + (2 ^ w - y)) % 2 ^ w) (difference_of w) (in_masks w a) (in_masks w b)
+    (λ x y left right. difference_on_circle w x y right) r
+    (cube_result w (λ x y. (x + (2 ^ w - y)) % 2 ^ w) a b left_cube right_cube r
     (difference_from w (2 ^ w - 1) a b top right_cube r
-    (result_cube w (λ x y. (x + y + 1) % 2 ^ w) a (record { zeros = b.ones; ones = b.zeros }) left_cube swapped r result)))
+    (result_cube w (λ x y. (x + y + 1) % 2 ^ w) a (record { zeros = b.ones; ones = b.zeros }) left_cube swapped r result))))
     (λ r result. cube_result w (λ x y. (x + y + 1) % 2 ^ w) a (record { zeros = b.ones; ones = b.zeros }) left_cube swapped r
     (difference_to w (2 ^ w - 1) a b top right_cube r
-    (result_cube w (λ x y. (x + (2 ^ w - y)) % 2 ^ w) a b left_cube right_cube r result)))
+    (result_cube w (λ x y. (x + (2 ^ w - y)) % 2 ^ w) a b left_cube right_cube r
+    (IsResult-alike w (difference_of w) (λ x y. (x + (2 ^ w - y)) % 2 ^ w) (in_masks w a) (in_masks w b)
+    (λ x y left right. sym (difference_on_circle w x y right)) r result))))
     moved

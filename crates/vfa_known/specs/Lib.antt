@@ -1,5 +1,4 @@
 pub mod Cube
-pub mod Sum
 pub mod Known
 pub mod Shift
 pub mod Agreement

@@ -1,14 +1,14 @@
--- The shifts, after the LLVM Language Reference, "Bitwise Binary Operations".
-use Rattle.std.specs.Prelude.{ℕ, ◌*◌, ◌/◌, ◌%◌, ◌^◌, ◌-◌}
-use Rattle.vfa_word.specs.Numbers.{wrap, signed_of, floor_div}
+-- The three shifts as one family.
+use Rattle.std.specs.Prelude.{ℕ, ◌^◌, ◌-◌}
+use Rattle.vfa_word.specs.Operations.{shifted_left, shifted_right, shifted_right_signed}
 use Rattle.vfa_known.specs.declared.shift.Shift.{Shift}
 use Rattle.vfa_known.specs.declared.shift.Shift.TheVariants.{Left, Logical, Arithmetic}
 
 -- what the shift by t gives of a number x of width w
 abbrev pub shift_of : Shift → ℕ → ℕ → ℕ → ℕ
-shift_of Left w x t = (x * 2 ^ t) % 2 ^ w
-shift_of Logical w x t = x / 2 ^ t
-shift_of Arithmetic w x t = wrap w (floor_div (signed_of w x) (2 ^ t))
+shift_of Left w x t = shifted_left w x t
+shift_of Logical w x t = shifted_right x t
+shift_of Arithmetic w x t = shifted_right_signed w x t
 
 -- the places that the shift by t fills with zeros, whatever it shifts
 abbrev pub zeros_from_outside : Shift → ℕ → ℕ → ℕ

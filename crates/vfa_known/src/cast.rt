@@ -1,7 +1,8 @@
-ghost use Rattle.std.specs.Prelude.{◌≡◌, ◌<◌, ◌%◌, ◌^◌};
+ghost use Rattle.std.specs.Prelude.{◌≡◌, ◌<◌, ◌-◌, ◌^◌, bit_or};
 ghost use Rattle.vfa_dom.specs.Best.{best_of};
-ghost use Rattle.vfa_dom.specs.Results.{images};
-ghost use Rattle.vfa_word.specs.Numbers.{IsWidth, wrap, signed_of};
+ghost use Rattle.vfa_dom.specs.Results.{images, UnknownImagesVary};
+ghost use Rattle.vfa_word.specs.Numbers.{IsWidth};
+ghost use Rattle.vfa_word.specs.Operations.{zero_extended, sign_extended, truncated};
 
 use crate::known::Known;
 use vfa_word::{Word, most};
@@ -11,7 +12,7 @@ fn sign_extended<const V: u32, const W: u32>(bits: u128) -> u128
     requires from { IsWidth V }
     requires to { IsWidth W }
     requires fits { bits < 2 ^ V }
-    ensures { result ≡ wrap W (signed_of V bits) }
+    ensures { result ≡ sign_extended V W bits }
 {
     Word::<W>::wrapped(Word::<V>::cut(bits).signed()).bits()
 }
@@ -25,7 +26,10 @@ impl<const W: u32> Known<W> {
     pub fn zext_from<const V: u32>(from: &Known<V>) -> Known<W>
         requires width { IsWidth W }
         requires wider { V < W }
-        ensures { masks_of result ≡ best_of W (images V (λ x. x) (in_known V from.now)) }
+        ensures best { masks_of result ≡ best_of W (images V zero_extended (in_known V from.now)) }
+        ensures unknown { UnknownImagesVary W V zero_extended (in_known V from.now) (masks_of result) }
+        ensures masks { let known = masks_of from.now in
+            masks_of result ≡ record { zeros = bit_or known.zeros (2 ^ W - 2 ^ V); ones = known.ones } }
     {
         Known {
             zeros: from.zeros | (most::<W>() - most::<V>()),
@@ -40,7 +44,10 @@ impl<const W: u32> Known<W> {
     pub fn sext_from<const V: u32>(from: &Known<V>) -> Known<W>
         requires width { IsWidth W }
         requires wider { V < W }
-        ensures { masks_of result ≡ best_of W (images V (λ x. wrap W (signed_of V x)) (in_known V from.now)) }
+        ensures best { masks_of result ≡ best_of W (images V (sign_extended V W) (in_known V from.now)) }
+        ensures unknown { UnknownImagesVary W V (sign_extended V W) (in_known V from.now) (masks_of result) }
+        ensures masks { let known = masks_of from.now in
+            masks_of result ≡ record { zeros = sign_extended V W known.zeros; ones = sign_extended V W known.ones } }
     {
         Known {
             zeros: sign_extended::<V, W>(from.zeros),
@@ -54,7 +61,10 @@ impl<const W: u32> Known<W> {
     pub fn trunc_from<const V: u32>(from: &Known<V>) -> Known<W>
         requires width { IsWidth W }
         requires narrower { W < V }
-        ensures { masks_of result ≡ best_of W (images V (λ x. x % 2 ^ W) (in_known V from.now)) }
+        ensures best { masks_of result ≡ best_of W (images V (truncated W) (in_known V from.now)) }
+        ensures unknown { UnknownImagesVary W V (truncated W) (in_known V from.now) (masks_of result) }
+        ensures masks { let known = masks_of from.now in
+            masks_of result ≡ record { zeros = truncated W known.zeros; ones = truncated W known.ones } }
     {
         let kept = most::<W>();
         Known {

@@ -1,6 +1,7 @@
 ghost use Rattle.std.specs.Prelude.{◌≡◌, ℕ, ◌<◌, ◌-◌, ◌^◌, ◌↔◌, bit_and, IsTrue};
 ghost use Rattle.std.specs.Bool.{OnTrue};
 ghost use Rattle.vfa_dom.specs.Best.{best_of};
+ghost use Rattle.vfa_dom.specs.Results.{UnknownMembersVary};
 ghost use Rattle.vfa_dom.specs.Sets.{union, includes, single_of};
 ghost use Rattle.vfa_word.specs.Numbers.{IsWidth};
 
@@ -62,6 +63,7 @@ impl<const W: u32> Domain<W> for Known<W> {
             let two = masks_of other.now in
             masks_of result ≡ record { zeros = bit_and one.zeros two.zeros; ones = bit_and one.ones two.ones } }
         ensures best { masks_of result ≡ best_of W (union (in_known W self.now) (in_known W other.now)) }
+        ensures unknown { UnknownMembersVary W (union (in_known W self.now) (in_known W other.now)) (masks_of result) }
     {
         Known {
             zeros: self.zeros & other.zeros,

@@ -1,5 +1,6 @@
 ghost use Rattle.std.specs.Prelude.{◌≡◌, ℕ, ◌*◌, ◌-◌, ◌%◌, ◌^◌, ◌≤◌, min, IsTrue};
 ghost use Rattle.vfa_word.specs.Numbers.{IsWidth};
+ghost use Rattle.vfa_word.specs.Operations.{product_of};
 ghost use Rattle.vfa_known.specs.Product.{product_masks, run_of, is_known, is_known_zero};
 
 use crate::known::Known;
@@ -16,7 +17,7 @@ impl<const W: u32> Known<W> {
     /// bits are zero, one of the first operand and two of the second.
     pub fn mul(&self, other: &Known<W>) -> Known<W>
         ensures low_bits { masks_of result ≡ product_masks W (masks_of self.now) (masks_of other.now) }
-        ensures holds { (x y : ℕ) → IsTrue (in_known W self.now x) → IsTrue (in_known W other.now y) → IsTrue (in_known W result ((x * y) % 2 ^ W)) }
+        ensures holds { (x y : ℕ) → IsTrue (in_known W self.now x) → IsTrue (in_known W other.now y) → IsTrue (in_known W result (product_of W x y)) }
     {
         let product = self.ones.wrapping_mul(other.ones);
         let known = low_bits::<W>(self.known_run().min(other.known_run()));

@@ -1,7 +1,8 @@
-ghost use Rattle.std.specs.Prelude.{◌≡◌, ◌≢◌, ◌*◌, ◌/◌, ◌%◌, ◌^◌, ◌<◌};
+ghost use Rattle.std.specs.Prelude.{◌≡◌, ◌≢◌, ◌^◌, ◌<◌};
 ghost use Rattle.vfa_dom.specs.Best.{best_of};
-ghost use Rattle.vfa_dom.specs.Results.{images, results_over};
-ghost use Rattle.vfa_word.specs.Numbers.{IsWidth, wrap, signed_of, floor_div};
+ghost use Rattle.vfa_dom.specs.Results.{images, results_over, UnknownShiftsVary};
+ghost use Rattle.vfa_word.specs.Numbers.{IsWidth};
+ghost use Rattle.vfa_word.specs.Operations.{shifted_left, shifted_right, shifted_right_signed};
 ghost use Rattle.vfa_known.specs.Shift.{shift_of, zeros_from_outside};
 
 use crate::known::Known;
@@ -26,7 +27,8 @@ impl<const W: u32> Known<W> {
     pub fn shl(&self, amounts: u128) -> Known<W>
         requires some { amounts ≢ 0 }
         requires below { amounts < 2 ^ W }
-        ensures { masks_of result ≡ best_of W (results_over W (λ x t. (x * 2 ^ t) % 2 ^ W) (in_known W self.now) amounts) }
+        ensures best { masks_of result ≡ best_of W (results_over W (shifted_left W) (in_known W self.now) amounts) }
+        ensures unknown { UnknownShiftsVary W (shifted_left W) (in_known W self.now) amounts (masks_of result) }
     {
         self.shifted_over(Shift::Left, amounts)
     }
@@ -38,7 +40,8 @@ impl<const W: u32> Known<W> {
     pub fn lshr(&self, amounts: u128) -> Known<W>
         requires some { amounts ≢ 0 }
         requires below { amounts < 2 ^ W }
-        ensures { masks_of result ≡ best_of W (results_over W (λ x t. x / 2 ^ t) (in_known W self.now) amounts) }
+        ensures best { masks_of result ≡ best_of W (results_over W shifted_right (in_known W self.now) amounts) }
+        ensures unknown { UnknownShiftsVary W shifted_right (in_known W self.now) amounts (masks_of result) }
     {
         self.shifted_over(Shift::Logical, amounts)
     }
@@ -50,7 +53,8 @@ impl<const W: u32> Known<W> {
     pub fn ashr(&self, amounts: u128) -> Known<W>
         requires some { amounts ≢ 0 }
         requires below { amounts < 2 ^ W }
-        ensures { masks_of result ≡ best_of W (results_over W (λ x t. wrap W (floor_div (signed_of W x) (2 ^ t))) (in_known W self.now) amounts) }
+        ensures best { masks_of result ≡ best_of W (results_over W (shifted_right_signed W) (in_known W self.now) amounts) }
+        ensures unknown { UnknownShiftsVary W (shifted_right_signed W) (in_known W self.now) amounts (masks_of result) }
     {
         self.shifted_over(Shift::Arithmetic, amounts)
     }
@@ -59,7 +63,8 @@ impl<const W: u32> Known<W> {
     fn shifted_over(&self, shift: Shift, amounts: u128) -> Known<W>
         requires some { amounts ≢ 0 }
         requires below { amounts < 2 ^ W }
-        ensures { masks_of result ≡ best_of W (results_over W (shift_of shift W) (in_known W self.now) amounts) }
+        ensures best { masks_of result ≡ best_of W (results_over W (shift_of shift W) (in_known W self.now) amounts) }
+        ensures unknown { UnknownShiftsVary W (shift_of shift W) (in_known W self.now) amounts (masks_of result) }
     {
         let first = amounts.trailing_zeros();
         let mut all = self.shifted(shift, first);

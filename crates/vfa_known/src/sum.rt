@@ -1,7 +1,7 @@
 ghost use Rattle.std.specs.Prelude.{◌≡◌, ◌+◌, ◌%◌, ◌^◌, ◌≤◌};
 ghost use Rattle.vfa_dom.specs.Best.{best_of, IsBest};
 ghost use Rattle.vfa_dom.specs.Results.{results, IsResult, UnknownBitsVary};
-ghost use Rattle.vfa_known.specs.Sum.{sum_of, difference_of};
+ghost use Rattle.vfa_word.specs.Operations.{sum_of, difference_of};
 
 use crate::known::Known;
 use vfa_word::most;

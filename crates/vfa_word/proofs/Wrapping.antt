@@ -67,7 +67,8 @@ wrap_of_bits w (pos n) h f = refl
 wrap_of_bits w (negsuc n) h f =
     wrap_negative w (2 ^ 128 - suc n) n (2 ^ (128 - w)) (omega (arith, power_split 128 w h, f.sfits))
 
-wrap_less : (w n a b k : ℕ) (z : ℤ) → z ≡ pos a -ℤ pos b → n + b ≡ a + k * 2 ^ w → n % 2 ^ w ≡ wrap w z
+-- what n wraps to, where n and a whole number a - b differ by a multiple of 2^w
+pub wrap_less : (w n a b k : ℕ) (z : ℤ) → z ≡ pos a -ℤ pos b → n + b ≡ a + k * 2 ^ w → n % 2 ^ w ≡ wrap w z
 wrap_less w n a b k (pos m) i e = wrap_pos w n m k (omega (arith, ints))
 wrap_less w n a b k (negsuc m) i e = wrap_negative w n m k (omega (arith, ints))
 

@@ -1,11 +1,12 @@
 -- What each operation gives of numbers of width w, after the LLVM Language Reference: whole numbers without bound, and
--- one definition for each operation. Whether a whole result fits the width is `whole_result` with `fits_unsigned` and
--- `fits_signed`. The bitwise operations `and`, `or` and `xor` are std's `bit_and`, `bit_or` and `bit_xor`, which are the
+-- one definition for each operation. Whether a whole result fits the width is said by `fits_unsigned` of
+-- `whole_unsigned`, and by `fits_signed` of `whole_signed`. The bitwise operations `and`, `or` and `xor` are std's `bit_and`, `bit_or` and `bit_xor`, which are the
 -- same at each width.
 use Rattle.std.specs.Prelude.{ℕ, zero, suc, ◌+◌, ◌-◌, ◌*◌, ◌/◌, ◌%◌, ◌^◌, Bool, min, max, ℤ, pos, negsuc, ◌-ℤ◌, int_lt, int_div, int_rem, unsigned_abs, nat_lt, nat_eq, if◌then◌else◌}
 use Rattle.std.specs.Int.{bit_at, saturate_to_bits}
 use Rattle.vfa_word.specs.Numbers.{wrap, signed_of, floor_div, whole_result}
 use Rattle.vfa_word.specs.declared.arith.Arith.{Arith}
+use Rattle.vfa_word.specs.declared.arith.Arith.TheVariants.{Shl}
 
 -- ---- "Binary Operations": `add`, `sub`, `mul`; at width 8, 5 - 10 is 251
 
@@ -17,6 +18,15 @@ difference_of w x y = wrap w (pos x -ℤ pos y)
 
 abbrev pub product_of : ℕ → ℕ → ℕ → ℕ
 product_of w x y = (x * y) % 2 ^ w
+
+-- the whole results whose range the flags `nuw` and `nsw` speak of: of the numbers, and of the signed readings; an
+-- amount is a number in both
+abbrev pub whole_unsigned : Arith → ℕ → ℕ → ℤ
+whole_unsigned op x y = whole_result op (pos x) (pos y)
+
+abbrev pub whole_signed : ℕ → Arith → ℕ → ℕ → ℤ
+whole_signed w Shl x t = whole_result Shl (signed_of w x) (pos t)
+whole_signed w op x y = whole_result op (signed_of w x) (signed_of w y)
 
 -- ---- "Binary Operations": `udiv`, `urem`, `sdiv` and `srem`, for y that is not 0. The unsigned quotient is rounded down,
 -- the signed one toward 0, and a remainder is what the quotient leaves: at width 8, -7 by 2 is -3, and leaves -1
@@ -100,12 +110,12 @@ clamped_signed w z = saturate_to_bits (w - 1) z
 
 -- the whole result of the numbers, clamped to the unsigned range; at width 8, 200 + 100 gives 255, and 5 - 10 gives 0
 abbrev pub saturated_unsigned : ℕ → Arith → ℕ → ℕ → ℕ
-saturated_unsigned w op x y = clamped_unsigned w (whole_result op (pos x) (pos y))
+saturated_unsigned w op x y = clamped_unsigned w (whole_unsigned op x y)
 
 -- the whole result of the signed readings, clamped to the signed range; at width 8, 100 + 100 gives 127, and 156 - 100,
 -- which is -100 - 100, gives 128, the number of -128
 abbrev pub saturated_signed : ℕ → Arith → ℕ → ℕ → ℕ
-saturated_signed w op x y = wrap w (clamped_signed w (whole_result op (signed_of w x) (signed_of w y)))
+saturated_signed w op x y = wrap w (clamped_signed w (whole_signed w op x y))
 
 -- ---- "Bit Manipulation Intrinsics": `llvm.ctpop`, `llvm.ctlz` and `llvm.cttz`. At width 8 the number 20, which is
 -- 00010100, has 2 ones, 3 zeros above the highest one and 2 zeros below the lowest; 0 has 8 of each kind of zeros

@@ -1,5 +1,6 @@
 ghost use Rattle.std.specs.Prelude.{◌≡◌, ◌-◌, ◌^◌, ◌<◌, ◌≤◌, ◌+◌, ◌/◌, not, ◌&&◌, int_le, pos, negsuc, ◌+ℤ◌, ◌-ℤ◌, ◌*ℤ◌};
-ghost use Rattle.vfa_word.specs.Numbers.{IsWidth, fits_unsigned, fits_signed, whole_result, signed_of};
+ghost use Rattle.vfa_word.specs.Numbers.{IsWidth, fits_unsigned, fits_signed, signed_of};
+ghost use Rattle.vfa_word.specs.Operations.{whole_unsigned, whole_signed};
 
 use crate::word::most;
 use crate::{Arith, Word};
@@ -26,7 +27,7 @@ impl<const W: u32> Word<W> {
     /// number is the amount.
     pub fn overflows_u(self, op: Arith, other: Word<W>) -> bool
         requires { op ≡ Arith.Shl → other < W }
-        ensures { result ≡ not (fits_unsigned W (whole_result op (pos self.entry) (pos other.entry))) }
+        ensures { result ≡ not (fits_unsigned W (whole_unsigned op self.entry other.entry)) }
     {
         match op {
             Arith::Add => self.sum_overflows_u(other),
@@ -40,7 +41,7 @@ impl<const W: u32> Word<W> {
     /// the other number is the amount.
     pub fn overflows_s(self, op: Arith, other: Word<W>) -> bool
         requires { op ≡ Arith.Shl → other < W }
-        ensures { result ≡ not (fits_signed W (whole_result op (signed_of W self.entry) (signed_of W other.entry))) }
+        ensures { result ≡ not (fits_signed W (whole_signed W op self.entry other.entry)) }
     {
         match op {
             Arith::Add => self.sum_overflows_s(other),

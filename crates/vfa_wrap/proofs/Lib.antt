@@ -9,6 +9,9 @@ pub mod RowLaws
 pub mod SignedRowLaws
 pub mod ProductLaws
 pub mod RowSteps
+pub mod OrderRowLaws
+pub mod WholePlaceLaws
+pub mod SpanLaws
 pub mod RowsWhole
 pub mod Runs
 pub mod CommonArcs

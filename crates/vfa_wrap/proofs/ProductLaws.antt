@@ -13,7 +13,8 @@ use Rattle.vfa_wrap.specs.Arc.{in_span, full_span, arc_from, sarc}
 use Rattle.vfa_wrap.specs.Ends.{EndsOf}
 use Rattle.vfa_wrap.specs.Between.{Between}
 use Rattle.vfa_wrap.specs.RowResults.{result_of}
-use Rattle.vfa_wrap.specs.Rows.{HoldsResults, mul_row, least_corner, greatest_corner, signed_products}
+use Rattle.vfa_wrap.specs.Rows.{HoldsResults, mul_row, signed_products}
+use Rattle.vfa_wrap.specs.WholeSpans.{least_corner, greatest_corner}
 use Rattle.vfa_wrap.specs.declared.ends_op.EndsOp.TheVariants.{Mul}
 use Rattle.vfa_wrap.proofs.RowArcs.{fits_tells, sarc_holds, arc_from_holds, full_holds}
 use Rattle.vfa_wrap.proofs.RowLaws.{same_result}
@@ -45,7 +46,7 @@ times_parts n a b m e =
     let d : n * (a + b) ≡ n * m = ap (λ i. n * i) e in
     omega (arith, d)
 
-product_cases : (w x y : ℕ) (b c : Bool) → x < 2 ^ w → y < 2 ^ w → wrap w (cond b (pos x) (pos x -ℤ pos (2 ^ w)) *ℤ cond c (pos y) (pos y -ℤ pos (2 ^ w))) ≡ x * y % 2 ^ w
+pub product_cases : (w x y : ℕ) (b c : Bool) → x < 2 ^ w → y < 2 ^ w → wrap w (cond b (pos x) (pos x -ℤ pos (2 ^ w)) *ℤ cond c (pos y) (pos y -ℤ pos (2 ^ w))) ≡ x * y % 2 ^ w
 product_cases w x y true true h k = refl
 product_cases w x y true false h k =
     rw (under (2 ^ w) y k)
@@ -63,7 +64,7 @@ pub wrap-product : (w x y : ℕ) → x < 2 ^ w → y < 2 ^ w → wrap w (signed_
 wrap-product w x y h k = product_cases w x y _ _ h k
 
 -- ---- the least and greatest of the products of ends
-times_up : (p u : ℤ) (n : ℕ) → p ≤ℤ u → (p *ℤ pos n) ≤ℤ (u *ℤ pos n)
+pub times_up : (p u : ℤ) (n : ℕ) → p ≤ℤ u → (p *ℤ pos n) ≤ℤ (u *ℤ pos n)
 times_up (pos a) (pos b) n h = omega (arith, ints, mul-le a n b n (omega (arith, ints)) (omega arith))
 times_up (pos a) (negsuc b) n h = absurd h.le
 times_up (negsuc a) (pos b) n h = omega (arith, ints)

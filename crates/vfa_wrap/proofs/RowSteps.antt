@@ -7,7 +7,8 @@ use Rattle.std.proofs.Math.Pow.{pow_mono}
 use Rattle.vfa_word.specs.Numbers.{wrap, fits_signed}
 use Rattle.vfa_word.proofs.Wrapping.{masked, wrap_of_bits}
 use Rattle.vfa_wrap.specs.Arc.{Span, full_span, sarc}
-use Rattle.vfa_wrap.specs.Rows.{signed_products, least_corner, greatest_corner, size_of, udiv_row, sdiv_row}
+use Rattle.vfa_wrap.specs.Rows.{signed_products, size_of, udiv_row, sdiv_row}
+use Rattle.vfa_wrap.specs.WholeSpans.{least_corner, greatest_corner}
 use Rattle.vfa_wrap.specs.Ends.{EndsOf}
 use Rattle.vfa_wrap.proofs.RowArcs.{FitsHalf, fits_tells, fits_between}
 

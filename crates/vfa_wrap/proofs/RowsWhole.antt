@@ -1,5 +1,5 @@
 -- The rows of all operations: they hold every result, and are empty just where there is no divisor but 0.
-use Rattle.std.proofs.Common.{◌≡◌, ℕ, ◌-◌, ◌^◌, ◌<◌, ◌≤◌, Bool, true, false, cond, ℤ, pos, refl, sym, ◌∙◌, subst, arith, Option, Some, None, rules}
+use Rattle.std.proofs.Common.{◌≡◌, ℕ, ◌-◌, ◌^◌, ◌<◌, ◌≤◌, Bool, true, false, cond, ℤ, pos, refl, sym, ◌∙◌, subst, arith, Option, Some, None}
 use Rattle.std.proofs.lemmas.Bool.{false≢true}
 use Rattle.std.specs.Prelude.{IsNone, ◌↔◌, unsigned_abs, nat_lt, ◌==◌}
 use Rattle.std.specs.Option.{option_map}
@@ -11,13 +11,18 @@ use Rattle.vfa_wrap.specs.Ends.{EndsOf}
 use Rattle.vfa_wrap.specs.Between.{AreEnds}
 use Rattle.vfa_wrap.specs.Rows.{row_by_ends, udiv_row, urem_row, sdiv_row, srem_row, size_of, HoldsResults, HasNoDivisor, AreSecondEnds}
 use Rattle.vfa_wrap.specs.declared.ends_op.EndsOp.{EndsOp}
-use Rattle.vfa_wrap.specs.declared.ends_op.EndsOp.TheVariants.{Mul, And, Or, Shl, Lshr, Ashr, Udiv, Sdiv, Urem, Srem}
+use Rattle.vfa_wrap.specs.declared.ends_op.EndsOp.TheVariants.{Mul, And, Or, Shl, Lshr, Ashr, Udiv, Sdiv, Urem, Srem, Umin, Umax, Smin, Smax, UaddSat, UsubSat, SaddSat, SsubSat}
 use Rattle.vfa_wrap.proofs.RowLaws.{and_holds, or_holds, shl_holds, lshr_holds, udiv_holds, urem_holds}
 use Rattle.vfa_wrap.proofs.SignedRowLaws.{ashr_holds, sdiv_holds, srem_holds, size_bound, signed_size}
 use Rattle.vfa_wrap.proofs.ProductLaws.{mul_holds}
+use Rattle.vfa_wrap.proofs.OrderRowLaws.{umin_holds, umax_holds, smin_holds, smax_holds}
+use Rattle.vfa_wrap.proofs.SpanLaws.{saturation_holds, none_of_map}
+use Rattle.vfa_wrap.specs.RowResults.{result_of}
+use Rattle.vfa_word.specs.declared.arith.Arith.TheVariants.{Add, Sub}
+use Rattle.vfa_wrap.specs.declared.reading.Reading.TheVariants.{Unsigned, Signed}
 
 row_holds : (op : EndsOp) (w : ℕ) (a b : EndsOf) → IsWidth w → AreEnds w a → AreSecondEnds op w b → HoldsResults op w a b (row_by_ends op w a b)
-unfolding row_by_ends
+unfolding row_by_ends result_of
 row_holds Mul w a b h ea eb = mul_holds w a b h.least
 row_holds And w a b h ea eb = and_holds w a b ea
 row_holds Or w a b h ea eb = or_holds w a b
@@ -28,6 +33,14 @@ row_holds Udiv w a b h ea eb = udiv_holds w a b ea eb
 row_holds Sdiv w a b h ea eb = sdiv_holds w a b h.least ea eb
 row_holds Urem w a b h ea eb = urem_holds w a b ea eb
 row_holds Srem w a b h ea eb = srem_holds w a b h.least ea eb
+row_holds Umin w a b h ea eb = umin_holds w a b ea
+row_holds Umax w a b h ea eb = umax_holds w a b ea eb
+row_holds Smin w a b h ea eb = smin_holds w a b h.least ea eb
+row_holds Smax w a b h ea eb = smax_holds w a b h.least ea eb
+row_holds UaddSat w a b h ea eb = saturation_holds UaddSat Add Unsigned w a b h.least (λ x y r e. cc)
+row_holds UsubSat w a b h ea eb = saturation_holds UsubSat Sub Unsigned w a b h.least (λ x y r e. cc)
+row_holds SaddSat w a b h ea eb = saturation_holds SaddSat Add Signed w a b h.least (λ x y r e. cc)
+row_holds SsubSat w a b h ea eb = saturation_holds SsubSat Sub Signed w a b h.least (λ x y r e. cc)
 
 pub same_row_holds : (op : EndsOp) (w : ℕ) (a b : EndsOf) (o : Option Span) → IsWidth w → AreEnds w a → AreSecondEnds op w b → o ≡ row_by_ends op w a b → HoldsResults op w a b o
 same_row_holds op w a b o h ea eb e = subst (HoldsResults op w a b) (sym e) (row_holds op w a b h ea eb)
@@ -103,10 +116,14 @@ row_empty Sdiv w a b h e =
 row_empty Urem w a b h e =
     empty_cases (b.hi == 0) _ (b.hi ≡ 0) (zero_tells b.hi).0 (zero_tells b.hi).1 (some_of_two _ _ _ (b.hi ≡ 0))
 row_empty Srem w a b h e = by_size w b _ h.least e.0 (λ f. cc)
-
-none_of_map : {X : Type 0} (o : Option X) (f : X → Span) → (IsNone o → option_map f o ≡ None) × (option_map f o ≡ None → IsNone o)
-none_of_map None f = (λ _. refl, λ _. search rules)
-none_of_map (Some x) f = (λ n. absurd (search (rules, n)), λ e. cc)
+row_empty Umin w a b h e = never_empty _
+row_empty Umax w a b h e = never_empty _
+row_empty Smin w a b h e = never_empty _
+row_empty Smax w a b h e = never_empty _
+row_empty UaddSat w a b h e = never_empty _
+row_empty UsubSat w a b h e = never_empty _
+row_empty SaddSat w a b h e = never_empty _
+row_empty SsubSat w a b h e = never_empty _
 
 pub same_row_empty : {X : Type 0} (op : EndsOp) (w : ℕ) (a b : EndsOf) (o : Option X) (f : X → Span) → IsWidth w → AreSecondEnds op w b → option_map f o ≡ row_by_ends op w a b → IsNone o ↔ HasNoDivisor op b
 same_row_empty op w a b o f h e d =

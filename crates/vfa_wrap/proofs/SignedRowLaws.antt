@@ -70,7 +70,7 @@ ashr_holds w a b one ea = record {
 }
 
 -- ---- signed quotients and remainders
-divides_tells : (w x y r : ℕ) (z : ℤ) → divides_signed w x y z ≡ Some r → (0 < y) × (fits_signed w (int_div (signed_of w x) (signed_of w y)) ≡ true) × (wrap w z ≡ r)
+divides_tells : (w x y r : ℕ) (z : ℤ) → divides_signed w x y (wrap w z) ≡ Some r → (0 < y) × (fits_signed w (int_div (signed_of w x) (signed_of w y)) ≡ true) × (wrap w z ≡ r)
 divides_tells w x zero r z e = cc
 divides_tells w x (suc y) r z e =
     let f = passed _ _ _ e in

@@ -3,7 +3,9 @@ use Rattle.std.proofs.lemmas.Bool.{cases_lt, lt-ltb, le-ltb}
 use Rattle.std.proofs.lemmas.Nat.{mod_below}
 use Rattle.std.proofs.Math.Nat.{mod-add-mod, add-mod-mod, add-mod_right, mod-eq_of_lt}
 use Rattle.vfa_dom.specs.Results.{results, IsResult}
-use Rattle.vfa_dom.proofs.ResultSets.{results_passes, results_at}
+use Rattle.vfa_dom.proofs.ResultSets.{results_passes, results_at, results-alike}
+use Rattle.vfa_word.specs.Operations.{difference_of}
+use Rattle.vfa_word.proofs.Wrapping.{wrap_difference_is}
 use Rattle.vfa_wrap.specs.Arc.{Span, steps, in_span, arc_from, full_span, IsArc, sum_span, difference_span}
 use Rattle.vfa_wrap.proofs.Truth.{same_answers}
 use Rattle.vfa_wrap.proofs.Circle.{steps_is, ahead, in_from, in_to, in_full, in_ahead, ahead_in, steps_back, wrapped_sum, arc_from-mod, arc_from-same}
@@ -239,9 +241,16 @@ difference_operands w s t r hs ht h =
       is = sym (difference_at w s.first t.last ((s.first + i) % 2 ^ w) two.0 hs.first_fits ht.last_fits one.0 two.1) ∙ ap (λ (n : ℕ). (p + n) % 2 ^ w) whole ∙ steps_back w p r hp.0 far.0;
     }
 
--- the arc of differences has just the differences
-pub differences_are : (w : ℕ) (s t : Span) (r : ℕ) → IsArc w s → IsArc w t → in_span w (difference_span w s t) r ≡ results w (λ x y. (x + (2 ^ w - y)) % 2 ^ w) (in_span w s) (in_span w t) r
-differences_are w s t r hs ht = same_answers _ _
+-- the arc of differences round the circle has just these
+circle_differences : (w : ℕ) (s t : Span) (r : ℕ) → IsArc w s → IsArc w t → in_span w (difference_span w s t) r ≡ results w (λ x y. (x + (2 ^ w - y)) % 2 ^ w) (in_span w s) (in_span w t) r
+circle_differences w s t r hs ht = same_answers _ _
     (λ h. results_passes w (λ x y. (x + (2 ^ w - y)) % 2 ^ w) (in_span w s) (in_span w t) r (difference_operands w s t r hs ht h))
     (λ h. let o = results_at w (λ x y. (x + (2 ^ w - y)) % 2 ^ w) (in_span w s) (in_span w t) r h in
     rw (← o.is) (difference_to w s t o.left o.right hs ht o.left_in o.right_in))
+
+-- the arc of differences has just the differences
+pub differences_are : (w : ℕ) (s t : Span) (r : ℕ) → IsArc w s → IsArc w t → in_span w (difference_span w s t) r ≡ results w (difference_of w) (in_span w s) (in_span w t) r
+differences_are w s t r hs ht =
+    circle_differences w s t r hs ht
+    ∙ results-alike w (λ x y. (x + (2 ^ w - y)) % 2 ^ w) (difference_of w) (in_span w s) (in_span w t)
+    (λ x y left right. sym (wrap_difference_is w x y (omega arith))) r

@@ -5,5 +5,7 @@ pub mod Wrapped
 pub mod Places
 pub mod Ends
 pub mod Between
+pub mod WholeSpans
+pub mod WholePlaces
 pub mod RowResults
 pub mod Rows

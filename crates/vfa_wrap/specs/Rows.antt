@@ -1,22 +1,18 @@
 -- The arc of the results of an operation whose operands are known by their ends alone: one row for each operation,
 -- over whole numbers without bound, after the operation of LLVM's ConstantRange that is named there. None: there is no
 -- result.
-use Rattle.std.specs.Prelude.{◌≡◌, ℕ, ◌-◌, ◌*◌, ◌/◌, ◌^◌, ◌<◌, ◌≤◌, ◌==◌, min, max, ◌&&◌, nat_lt, Option, Some, None, ℤ, pos, neg_ℤ, ◌-ℤ◌, ◌*ℤ◌, int_lt, int_le, unsigned_abs, if◌then◌else◌, ◌⊎◌, IsTrue, IsSomeAnd}
+use Rattle.std.specs.Prelude.{◌≡◌, ℕ, ◌-◌, ◌*◌, ◌/◌, ◌^◌, ◌<◌, ◌≤◌, ◌==◌, min, max, ◌&&◌, nat_lt, Option, Some, None, ℤ, pos, neg_ℤ, ◌-ℤ◌, int_lt, int_le, unsigned_abs, if◌then◌else◌, ◌⊎◌, IsTrue, IsSomeAnd}
 use Rattle.std.specs.Int.{int_min, int_max}
 use Rattle.vfa_word.specs.Numbers.{fits_signed, floor_div}
 use Rattle.vfa_wrap.specs.Arc.{Span, full_span, arc_from, sarc, in_span}
 use Rattle.vfa_wrap.specs.Ends.{EndsOf}
 use Rattle.vfa_wrap.specs.Between.{Between, AreEnds}
 use Rattle.vfa_wrap.specs.RowResults.{result_of}
+use Rattle.vfa_wrap.specs.WholeSpans.{least_corner, greatest_corner, span_of_results, clamped_span}
+use Rattle.vfa_word.specs.declared.arith.Arith.TheVariants.{Add, Sub}
+use Rattle.vfa_wrap.specs.declared.reading.Reading.TheVariants.{Unsigned, Signed}
 use Rattle.vfa_wrap.specs.declared.ends_op.EndsOp.{EndsOp}
-use Rattle.vfa_wrap.specs.declared.ends_op.EndsOp.TheVariants.{Mul, And, Or, Shl, Lshr, Ashr, Udiv, Sdiv, Urem, Srem}
-
--- the least and the greatest of the products of one of p and q and one of r and s
-abbrev pub least_corner : ℤ → ℤ → ℤ → ℤ → ℤ
-least_corner p q r s = int_min (int_min (p *ℤ r) (p *ℤ s)) (int_min (q *ℤ r) (q *ℤ s))
-
-abbrev pub greatest_corner : ℤ → ℤ → ℤ → ℤ → ℤ
-greatest_corner p q r s = int_max (int_max (p *ℤ r) (p *ℤ s)) (int_max (q *ℤ r) (q *ℤ s))
+use Rattle.vfa_wrap.specs.declared.ends_op.EndsOp.TheVariants.{Mul, And, Or, Shl, Lshr, Ashr, Udiv, Sdiv, Urem, Srem, Umin, Umax, Smin, Smax, UaddSat, UsubSat, SaddSat, SsubSat}
 
 -- from the least to the greatest product of signed ends, where both are in the signed range
 abbrev pub signed_products : ℕ → ℤ → ℤ → Span
@@ -97,6 +93,19 @@ srem_row w a b =
     then None
     else Some (sarc w (least_remainder a (size_of b)) (greatest_remainder a (size_of b)))
 
+-- ConstantRange::umin, ConstantRange::umax, ConstantRange::smin and ConstantRange::smax
+unfoldable pub umin_row : ℕ → EndsOf → EndsOf → Span
+umin_row w a b = arc_from w (min a.lo b.lo) (min a.hi b.hi)
+
+unfoldable pub umax_row : ℕ → EndsOf → EndsOf → Span
+umax_row w a b = arc_from w (max a.lo b.lo) (max a.hi b.hi)
+
+unfoldable pub smin_row : ℕ → EndsOf → EndsOf → Span
+smin_row w a b = sarc w (int_min a.slo b.slo) (int_min a.shi b.shi)
+
+unfoldable pub smax_row : ℕ → EndsOf → EndsOf → Span
+smax_row w a b = sarc w (int_max a.slo b.slo) (int_max a.shi b.shi)
+
 unfoldable pub row_by_ends : EndsOp → ℕ → EndsOf → EndsOf → Option Span
 row_by_ends Mul w a b = Some (mul_row w a b)
 row_by_ends And w a b = Some (and_row w a b)
@@ -108,6 +117,15 @@ row_by_ends Udiv w a b = udiv_row w a b
 row_by_ends Sdiv w a b = sdiv_row w a b
 row_by_ends Urem w a b = urem_row w a b
 row_by_ends Srem w a b = srem_row w a b
+row_by_ends Umin w a b = Some (umin_row w a b)
+row_by_ends Umax w a b = Some (umax_row w a b)
+row_by_ends Smin w a b = Some (smin_row w a b)
+row_by_ends Smax w a b = Some (smax_row w a b)
+-- ConstantRange::uadd_sat, ConstantRange::usub_sat, ConstantRange::sadd_sat and ConstantRange::ssub_sat
+row_by_ends UaddSat w a b = Some (clamped_span Unsigned w (span_of_results Add Unsigned a b))
+row_by_ends UsubSat w a b = Some (clamped_span Unsigned w (span_of_results Sub Unsigned a b))
+row_by_ends SaddSat w a b = Some (clamped_span Signed w (span_of_results Add Signed a b))
+row_by_ends SsubSat w a b = Some (clamped_span Signed w (span_of_results Sub Signed a b))
 
 -- the ends of amounts of a shift, which are below the width
 abbrev pub AreAmounts : ℕ → EndsOf → Type 0

@@ -1,4 +1,4 @@
-ghost use Rattle.std.specs.Prelude.{◌≡◌, ◌-◌, ◌^◌, ◌<◌};
+ghost use Rattle.std.specs.Prelude.{◌≡◌, ℕ, ◌-◌, ◌^◌, ◌<◌, IsTrue};
 ghost use Rattle.vfa_word.specs.Numbers.{IsWidth};
 ghost use Rattle.vfa_dom.specs.Search.{least_below, greatest_below};
 ghost use Rattle.vfa_wrap.specs.Arc.{Span, in_span};
@@ -71,7 +71,7 @@ fn reading<const W: u32>(place: u128) -> i128
 }
 
 impl<const W: u32> Wrapped<W> {
-    ghost use Rattle.vfa_wrap.specs.Between.{AreEnds};
+    ghost use Rattle.vfa_wrap.specs.Between.{Between, AreEnds};
     ghost use Rattle.vfa_wrap.specs.Ends.{ends_of, shown_ends};
     ghost use Rattle.vfa_wrap.specs.Wrapped.{in_arc};
 
@@ -82,6 +82,7 @@ impl<const W: u32> Wrapped<W> {
     pub fn ends(&self) -> Ends<W>
         ensures value { shown_ends result ≡ ends_of W (in_arc W self.now) }
         ensures reached { AreEnds W (shown_ends result) }
+        ensures between { (x : ℕ) → IsTrue (in_arc W self.now x) → Between W (shown_ends result) x }
     {
         let lo = least_in::<W>(self.first, self.last);
         let hi = greatest_in::<W>(self.first, self.last);

@@ -21,4 +21,20 @@ pub enum EndsOp {
     Urem,
     /// The remainder of `Sdiv`, which has the sign of the dividend.
     Srem,
+    /// The lesser number.
+    Umin,
+    /// The greater number.
+    Umax,
+    /// The number of the lesser signed reading.
+    Smin,
+    /// The number of the greater signed reading.
+    Smax,
+    /// The sum, or the greatest number where the sum passes it.
+    UaddSat,
+    /// The difference, or 0 where it would be negative.
+    UsubSat,
+    /// The sum of the signed readings, clamped to the signed range.
+    SaddSat,
+    /// The difference of the signed readings, clamped to the signed range.
+    SsubSat,
 }

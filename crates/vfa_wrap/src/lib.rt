@@ -9,14 +9,18 @@ mod ends;
 mod ends_op;
 mod hull;
 mod pieces;
+mod places;
+mod reading;
 mod rounding;
 mod rows;
+pub mod spans;
 mod sums;
 
 pub use arc::Wrapped;
 pub use ends::Ends;
 pub use ends_op::EndsOp;
 pub use pieces::Pieces;
+pub use reading::Reading;
 
 #[cfg(test)]
 mod tests;

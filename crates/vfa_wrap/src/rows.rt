@@ -9,13 +9,17 @@ ghost use Rattle.vfa_wrap.specs.Wrapped.{span_of};
 
 mod bitwise;
 mod division;
+mod order;
 mod product;
 mod shift;
-mod signed;
+pub(crate) mod signed;
 
 use crate::arc::Wrapped;
 use crate::ends::Ends;
 use crate::ends_op::EndsOp;
+use crate::reading::Reading;
+use crate::spans::saturated;
+use vfa_word::Arith;
 
 /// The arc of the operation's row; None where the row is empty.
 #[tactic(auto, unfolding(crate::specs::Rows::row_by_ends))]
@@ -36,5 +40,13 @@ pub(crate) fn row<const W: u32>(op: EndsOp, a: &Ends<W>, b: &Ends<W>) -> Option<
         EndsOp::Sdiv => division::sdiv(a, b),
         EndsOp::Urem => division::urem(a, b),
         EndsOp::Srem => division::srem(a, b),
+        EndsOp::Umin => Some(order::umin(a, b)),
+        EndsOp::Umax => Some(order::umax(a, b)),
+        EndsOp::Smin => Some(order::smin(a, b)),
+        EndsOp::Smax => Some(order::smax(a, b)),
+        EndsOp::UaddSat => Some(saturated(Arith::Add, Reading::Unsigned, a, b)),
+        EndsOp::UsubSat => Some(saturated(Arith::Sub, Reading::Unsigned, a, b)),
+        EndsOp::SaddSat => Some(saturated(Arith::Add, Reading::Signed, a, b)),
+        EndsOp::SsubSat => Some(saturated(Arith::Sub, Reading::Signed, a, b)),
     }
 }

@@ -1,4 +1,5 @@
-ghost use Rattle.std.specs.Prelude.{◌≡◌, ℕ, ◌+◌, ◌-◌, ◌%◌, ◌^◌, ◌<◌, ◌≤◌, MatchOption};
+ghost use Rattle.std.specs.Prelude.{◌≡◌, ℕ, ◌+◌, ◌^◌, ◌<◌, ◌≤◌, MatchOption};
+ghost use Rattle.vfa_word.specs.Operations.{sum_of, difference_of};
 
 use crate::arc::{Wrapped, number_ahead, steps_up};
 use vfa_word::most;
@@ -28,7 +29,7 @@ impl<const W: u32> Wrapped<W> {
     /// As ConstantRange::add: at width 8, 200 to 210 and 100 to 105 give 44 to 59.
     pub fn add(&self, other: &Wrapped<W>) -> Wrapped<W>
         ensures span { span_of result ≡ sum_span W (span_of self.now) (span_of other.now) }
-        ensures sums { (r : ℕ) → in_arc W result r ≡ results W (λ x y. (x + y) % 2 ^ W) (in_arc W self.now) (in_arc W other.now) r }
+        ensures sums { (r : ℕ) → in_arc W result r ≡ results W (sum_of W) (in_arc W self.now) (in_arc W other.now) r }
     {
         match self.joint_extent(other) {
             None => Wrapped::everything(),
@@ -42,7 +43,7 @@ impl<const W: u32> Wrapped<W> {
     /// As ConstantRange::sub: at width 8, 10 to 20 less 15 to 16 gives 250 to 5.
     pub fn sub(&self, other: &Wrapped<W>) -> Wrapped<W>
         ensures span { span_of result ≡ difference_span W (span_of self.now) (span_of other.now) }
-        ensures differences { (r : ℕ) → in_arc W result r ≡ results W (λ x y. (x + (2 ^ W - y)) % 2 ^ W) (in_arc W self.now) (in_arc W other.now) r }
+        ensures differences { (r : ℕ) → in_arc W result r ≡ results W (difference_of W) (in_arc W self.now) (in_arc W other.now) r }
     {
         match self.joint_extent(other) {
             None => Wrapped::everything(),

@@ -4,7 +4,8 @@ ghost use Rattle.std.specs.Option.{SomeIff};
 ghost use Rattle.vfa_word.specs.Numbers.{IsWidth};
 ghost use Rattle.vfa_wrap.specs.Between.{AreEnds};
 ghost use Rattle.vfa_wrap.specs.Ends.{shown_ends};
-ghost use Rattle.vfa_wrap.specs.Rows.{mul_row, least_corner, greatest_corner, signed_products};
+ghost use Rattle.vfa_wrap.specs.Rows.{mul_row, signed_products};
+ghost use Rattle.vfa_wrap.specs.WholeSpans.{least_corner, greatest_corner};
 ghost use Rattle.vfa_wrap.specs.Wrapped.{span_of};
 
 use crate::arc::Wrapped;

@@ -1,6 +1,7 @@
 use Rattle.std.proofs.Common.{arith}
 use Rattle.std.specs.Int.{w128, trailing_zeros}
 use Rattle.vfa_dom.specs.Results.{images}
+use Rattle.vfa_dom.proofs.ResultSets.{shifts_vary}
 use Rattle.vfa_known.specs.Known.{masks_of, in_known}
 use Rattle.vfa_known.specs.Shift.{shift_of}
 use Rattle.vfa_known.proofs.Amounts.{lowest_amount, bit_of_amount, first_meet_at, next_meet_at, over_masks_at, shift_stays, taken_less_at}
@@ -39,9 +40,15 @@ loop-left-preserved g c =
     c.loop-left.invariant amount.inside c.shifted.ensures
     (bit_of_amount g.row.W left (trailing_zeros w128 left) m.width amount) c.join-all.ensures.alike
 
-pub returns : goal.returns
-returns g c =
+pub returns-clause-best : goal.returns-clause-best
+returns-clause-best g c =
     let m = c.args.self.now in
     let all = c.loop-left.all in
     over_masks_at g.row.W (shift_of c.args.shift g.row.W) (in_known g.row.W m) c.args.amounts (shift_stays c.args.shift g.row.W m.width)
     c.requires.below c.loop-left.left (masks_of all) all.cube.zeros_fit all.cube.ones_fit c.loop-left-test.false c.loop-left.invariant
+
+pub returns-clause-unknown : goal.returns-clause-unknown
+returns-clause-unknown g c =
+    let m = c.args.self.now in
+    shifts_vary g.row.W (shift_of c.args.shift g.row.W) (in_known g.row.W m) c.args.amounts
+    (shift_stays c.args.shift g.row.W m.width).fits _ (returns-clause-best g c)

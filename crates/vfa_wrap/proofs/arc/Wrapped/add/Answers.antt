@@ -1,5 +1,6 @@
 use Rattle.std.proofs.Common.{◌∙◌, sym, ap, ◌+◌, ◌%◌, ◌^◌, ◌≤◌, ◌≡◌, ℕ}
 use Rattle.vfa_dom.specs.Results.{results}
+use Rattle.vfa_word.specs.Operations.{sum_of}
 use Rattle.vfa_wrap.specs.Arc.{Span, IsArc, steps, arc_from, sum_span, in_span}
 use Rattle.vfa_wrap.specs.Wrapped.{span_of}
 use Rattle.vfa_wrap.proofs.SumArcs.{sum_full, sum_part, sums_are}
@@ -9,7 +10,7 @@ part : (w p n : ℕ) (s t r : Span) → IsArc w s → IsArc w t → steps w s.fi
     n ≡ steps w s.first s.last + steps w t.first t.last → p ≡ (s.first + t.first) % 2 ^ w → r ≡ arc_from w p (p + n) → r ≡ sum_span w s t
 part w p n s t r hs ht room en ep e = e ∙ rw (ep, en) (sym (sum_part w s t hs ht room))
 
-members : (w : ℕ) (s t r : Span) → IsArc w s → IsArc w t → r ≡ sum_span w s t → (n : ℕ) → in_span w r n ≡ results w (λ x y. (x + y) % 2 ^ w) (in_span w s) (in_span w t) n
+members : (w : ℕ) (s t r : Span) → IsArc w s → IsArc w t → r ≡ sum_span w s t → (n : ℕ) → in_span w r n ≡ results w (sum_of w) (in_span w s) (in_span w t) n
 members w s t r hs ht e n = ap (λ (a : Span). in_span w a n) e ∙ sums_are w s t n hs ht
 
 pub returns-in-None-clause-span : goal.returns-in-None-clause-span

@@ -2,13 +2,13 @@ use Rattle.std.proofs.Common.{◌≡◌, ◌+◌, ◌-◌, ◌%◌, ◌^◌, ◌
 use Rattle.std.specs.Int.{w128}
 use Rattle.std.proofs.lemmas.Int.{to_z-of_z}
 use Rattle.vfa_dom.specs.Search.{least_below, greatest_below}
-use Rattle.vfa_wrap.specs.Arc.{Span, in_span}
+use Rattle.vfa_wrap.specs.Arc.{Span, in_span, in_span_fits}
 use Rattle.vfa_wrap.specs.Places.{reading_at, in_signed_order}
 use Rattle.vfa_wrap.specs.Ends.{EndsOf, ends_of}
 use Rattle.vfa_wrap.specs.Wrapped.{span_of}
-use Rattle.vfa_wrap.specs.Between.{AreEnds}
+use Rattle.vfa_wrap.specs.Between.{Between, AreEnds}
 use Rattle.vfa_wrap.proofs.ArcSets.{first_in}
-use Rattle.vfa_wrap.proofs.SetEnds.{are_ends}
+use Rattle.vfa_wrap.proofs.SetEnds.{are_ends, between_ends}
 use Rattle.vfa_wrap.proofs.ArcEnds.{least_turned, greatest_turned}
 use Rattle.vfa_wrap.proofs.arc.Wrapped.ends.Goals as goal
 
@@ -41,7 +41,13 @@ returns g c =
     c.least_in-lo.ensures.value c.greatest_in-hi.ensures.value c.least_in.ensures.value c.greatest_in.ensures.value c.reading-slo.ensures c.reading-shi.ensures in
     let value = shown c.least_in-lo.result c.greatest_in-hi.result c.reading-slo.result c.reading-shi.result (to_z-of_z w128 c.reading-slo.result low_fits) (to_z-of_z w128 c.reading-shi.result high_fits) ∙ at in
     let ends = are_ends g.row.W (in_span g.row.W s) s.first c.args.self.now.width.least arc.first_fits (first_in g.row.W s arc) in
-    record { value = value; reached = subst (AreEnds g.row.W) (sym value) ends }
+    let fits = in_span_fits g.row.W s in
+    record {
+      value = value;
+      reached = subst (AreEnds g.row.W) (sym value) ends;
+      between = λ x member. subst (λ e. Between g.row.W e x) (sym value)
+          (between_ends g.row.W (in_span g.row.W s) x c.args.self.now.width.least (fits x member) member);
+    }
   where
     shown : {x y : ℤ} (lo hi : ℕ) (a b : ℤ) → x ≡ a → y ≡ b → (◌≡◌ {A = EndsOf} (record { lo = lo; hi = hi; slo = x; shi = y }) (record { lo = lo; hi = hi; slo = a; shi = b }))
     shown lo hi a b ea eb = cc

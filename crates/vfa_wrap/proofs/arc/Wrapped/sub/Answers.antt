@@ -1,5 +1,6 @@
-use Rattle.std.proofs.Common.{◌∙◌, sym, ap, ◌+◌, ◌%◌, ◌-◌, ◌^◌, ◌≤◌, ◌≡◌, ℕ}
+use Rattle.std.proofs.Common.{◌∙◌, sym, ap, ◌+◌, ◌^◌, ◌≤◌, ◌≡◌, ℕ}
 use Rattle.vfa_dom.specs.Results.{results}
+use Rattle.vfa_word.specs.Operations.{difference_of}
 use Rattle.vfa_wrap.specs.Arc.{Span, IsArc, steps, arc_from, difference_span, in_span}
 use Rattle.vfa_wrap.specs.Wrapped.{span_of}
 use Rattle.vfa_wrap.proofs.SumArcs.{difference_full, difference_part, differences_are}
@@ -9,7 +10,7 @@ part : (w p n : ℕ) (s t r : Span) → IsArc w s → IsArc w t → steps w s.fi
     n ≡ steps w s.first s.last + steps w t.first t.last → p ≡ steps w t.last s.first → r ≡ arc_from w p (p + n) → r ≡ difference_span w s t
 part w p n s t r hs ht room en ep e = e ∙ rw (ep, en) (sym (difference_part w s t hs ht room))
 
-members : (w : ℕ) (s t r : Span) → IsArc w s → IsArc w t → r ≡ difference_span w s t → (n : ℕ) → in_span w r n ≡ results w (λ x y. (x + (2 ^ w - y)) % 2 ^ w) (in_span w s) (in_span w t) n
+members : (w : ℕ) (s t r : Span) → IsArc w s → IsArc w t → r ≡ difference_span w s t → (n : ℕ) → in_span w r n ≡ results w (difference_of w) (in_span w s) (in_span w t) n
 members w s t r hs ht e n = ap (λ (a : Span). in_span w a n) e ∙ differences_are w s t n hs ht
 
 pub returns-in-None-clause-span : goal.returns-in-None-clause-span

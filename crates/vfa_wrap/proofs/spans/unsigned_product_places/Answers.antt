@@ -1,0 +1,10 @@
+use Rattle.vfa_wrap.specs.Ends.{shown_ends}
+use Rattle.vfa_wrap.specs.declared.reading.Reading.TheVariants.{Unsigned}
+use Rattle.vfa_wrap.proofs.SpanLaws.{places_from, natural_product_ends}
+use Rattle.vfa_wrap.proofs.spans.unsigned_product_places.Goals as goal
+
+pub returns : goal.returns
+returns g c =
+    let ends = natural_product_ends g.row.W (shown_ends c.args.a.now) (shown_ends c.args.b.now) c.least_of.result c.most_of.result c.least_of-2.result c.most_of-2.result
+    c.requires.left c.requires.right c.least_of.ensures c.most_of.ensures c.least_of-2.ensures c.most_of-2.ensures in
+    places_from Unsigned g.row.W _ _ _ _ _ c.result_place.ensures ends.0 c.result_place-2.ensures ends.1
