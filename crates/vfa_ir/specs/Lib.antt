@@ -4,6 +4,7 @@ pub mod Grammar
 pub mod Lexemes
 pub mod Names
 pub mod PhisFit
+pub mod Predicates
 pub mod Printable
 pub mod Reads
 pub mod Resolution
