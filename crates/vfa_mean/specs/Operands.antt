@@ -1,6 +1,6 @@
 -- What an operation asks of the values of its operands: that they are poison or of the types that it writes (LLVM Language
 -- Reference, "Instruction Reference": the arguments of each instruction).
-use Rattle.std.specs.Prelude.{◌≤◌, ℕ, ⊤}
+use Rattle.std.specs.Prelude.{◌≤◌, ⊤}
 use Rattle.vfa_ir.specs.declared.operations.Op.{Op}
 use Rattle.vfa_ir.specs.declared.operations.Ty.{Ty}
 use Rattle.vfa_ir.specs.Typed.{Converts}
@@ -35,17 +35,3 @@ AreValuesFor (Op.Over _ w _ _) a b c = AreOfWidth w a b
 AreValuesFor (Op.Part w _ _) a b c = IsValueOf (Ty.Pair w) c
 AreValuesFor (Op.Assume _) a b c = IsInt 1 c
 AreValuesFor (Op.Call _ _) a b c = ⊤
-
--- the width of the operands; of an `extractvalue` that of the pair's number
-abbrev pub operand_width : Op → ℕ
-operand_width (Op.Bin _ _ w _ _) = w
-operand_width (Op.Icmp _ _ w _ _) = w
-operand_width (Op.Select w _ _ _) = w
-operand_width (Op.Cast _ _ v _ _) = v
-operand_width (Op.Freeze w _) = w
-operand_width (Op.Two _ w _ _) = w
-operand_width (Op.One _ w _ _) = w
-operand_width (Op.Over _ w _ _) = w
-operand_width (Op.Part w _ _) = w
-operand_width (Op.Assume _) = 1
-operand_width (Op.Call _ _) = 1

@@ -1,138 +1,183 @@
-//! Sums, differences and products: wrapped, with flags, clamped and with overflow; minimum and maximum.
+//! Sums, differences and products: wrapped, with flags, and with overflow.
 
-ghost use Rattle.std.specs.Prelude.{◌≡◌, ◌≢◌, ◌||◌, ◌&&◌, pos};
-ghost use Rattle.vfa_word.specs.Numbers.{IsWidth, whole_result, wrap};
-ghost use Rattle.vfa_word.specs.Operations.{signed_minimum, signed_maximum, saturated_unsigned, saturated_signed, clamped_signed};
+ghost use Rattle.std.specs.Prelude.{◌≡◌, ◌≢◌, ◌<◌, ◌^◌, ◌||◌, ◌&&◌, pos, ◌+ℤ◌, ◌-ℤ◌, ◌*ℤ◌, not};
+ghost use Rattle.vfa_word.specs.Numbers.{IsWidth, fits_signed, fits_unsigned, signed_of, whole_result, wrap};
+ghost use Rattle.vfa_word.specs.Operations.{difference_of, product_of, sum_of};
 ghost use Rattle.vfa_mean.specs.Meaning.{of_two};
-ghost use Rattle.vfa_mean.specs.Rows.{arithmetic, chosen_or_clamped, two_numbers, with_overflow, leaves_unsigned, leaves_signed, overflows, overflow_arith};
+ghost use Rattle.vfa_mean.specs.Rows.{arithmetic, with_overflow, leaves_unsigned, leaves_signed, overflows, overflow_arith};
 ghost use Rattle.vfa_mean.specs.Values.{AreOfWidth};
 
-use crate::words::{POISON, number_unless, words};
+use crate::numbers::{
+    Numbers, POISON, both_numbers, cut, is_in_signed_range, most, number_unless, signed,
+};
 use crate::{Done, Val};
-use vfa_ir::{Flags, Fun2, Over};
-use vfa_word::{Arith, Word, most};
+use vfa_ir::{Flags, Over};
+use vfa_word::Arith;
 
-/// Whether the result over whole numbers leaves a range that the flags promise.
-fn breaks_flags<const W: u32>(op: Arith, flags: Flags, x: Word<W>, y: Word<W>) -> bool
-    requires { op ≢ Arith.Shl }
-    ensures { result ≡ (flags.nuw && leaves_unsigned W op x.entry y.entry || flags.nsw && leaves_signed W op x.entry y.entry) }
+/// Whether a sum leaves the unsigned range.
+fn sum_leaves_unsigned(width: u32, x: u128, y: u128) -> bool
+    requires { IsWidth width }
+    ensures { result ≡ not (fits_unsigned width (pos x +ℤ pos y)) }
 {
-    if flags.nuw && x.overflows_u(op, y) {
-        return true;
+    match x.checked_add(y) {
+        Some(sum) => most(width) < sum,
+        None => true,
     }
-    flags.nsw && x.overflows_s(op, y)
 }
 
-/// The result modulo 2^W.
-fn wrapped<const W: u32>(op: Arith, x: Word<W>, y: Word<W>) -> Word<W>
-    requires { op ≢ Arith.Shl }
-    ensures { result ≡ wrap W (whole_result op (pos x.entry) (pos y.entry)) }
+/// Whether a difference leaves the unsigned range.
+fn difference_leaves_unsigned(width: u32, x: u128, y: u128) -> bool
+    requires { x < 2 ^ width }
+    ensures { result ≡ not (fits_unsigned width (pos x -ℤ pos y)) }
+{
+    x < y
+}
+
+/// Whether a product leaves the unsigned range.
+fn product_leaves_unsigned(width: u32, x: u128, y: u128) -> bool
+    requires { IsWidth width }
+    ensures { result ≡ not (fits_unsigned width (pos x *ℤ pos y)) }
+{
+    match x.checked_mul(y) {
+        Some(product) => most(width) < product,
+        None => true,
+    }
+}
+
+/// Whether the whole result of two numbers leaves the unsigned range.
+fn leaves_unsigned(width: u32, op: Arith, x: u128, y: u128) -> bool
+    requires width { IsWidth width }
+    requires left { x < 2 ^ width }
+    requires no_shift { op ≢ Arith.Shl }
+    ensures { result ≡ leaves_unsigned width op x y }
 {
     match op {
-        Arith::Add => x.add(y),
-        Arith::Sub => x.sub(y),
-        Arith::Mul => x.mul(y),
+        Arith::Add => sum_leaves_unsigned(width, x, y),
+        Arith::Sub => difference_leaves_unsigned(width, x, y),
+        Arith::Mul => product_leaves_unsigned(width, x, y),
+        Arith::Shl => unreachable!(),
+    }
+}
+
+/// Whether a sum of whole numbers leaves the signed range.
+fn sum_leaves_signed(width: u32, x: i128, y: i128) -> bool
+    requires { IsWidth width }
+    ensures { result ≡ not (fits_signed width (x +ℤ y)) }
+{
+    match x.checked_add(y) {
+        Some(sum) => !is_in_signed_range(width, sum),
+        None => true,
+    }
+}
+
+/// Whether a difference of whole numbers leaves the signed range.
+fn difference_leaves_signed(width: u32, x: i128, y: i128) -> bool
+    requires { IsWidth width }
+    ensures { result ≡ not (fits_signed width (x -ℤ y)) }
+{
+    match x.checked_sub(y) {
+        Some(difference) => !is_in_signed_range(width, difference),
+        None => true,
+    }
+}
+
+/// Whether a product of whole numbers leaves the signed range.
+fn product_leaves_signed(width: u32, x: i128, y: i128) -> bool
+    requires { IsWidth width }
+    ensures { result ≡ not (fits_signed width (x *ℤ y)) }
+{
+    match x.checked_mul(y) {
+        Some(product) => !is_in_signed_range(width, product),
+        None => true,
+    }
+}
+
+/// Whether the whole result of the readings of two numbers leaves the signed range.
+fn leaves_signed(width: u32, op: Arith, x: u128, y: u128) -> bool
+    requires width { IsWidth width }
+    requires left { x < 2 ^ width }
+    requires right { y < 2 ^ width }
+    requires no_shift { op ≢ Arith.Shl }
+    ensures { result ≡ leaves_signed width op x y }
+{
+    let x = signed(width, x);
+    let y = signed(width, y);
+    match op {
+        Arith::Add => sum_leaves_signed(width, x, y),
+        Arith::Sub => difference_leaves_signed(width, x, y),
+        Arith::Mul => product_leaves_signed(width, x, y),
+        Arith::Shl => unreachable!(),
+    }
+}
+
+/// Whether the whole result of two numbers leaves a range that the flags promise.
+fn breaks_flags(width: u32, op: Arith, flags: Flags, x: u128, y: u128) -> bool
+    requires width { IsWidth width }
+    requires left { x < 2 ^ width }
+    requires right { y < 2 ^ width }
+    requires no_shift { op ≢ Arith.Shl }
+    ensures { result ≡ (flags.nuw && leaves_unsigned width op x y || flags.nsw && leaves_signed width op x y) }
+{
+    if flags.nuw && leaves_unsigned(width, op, x, y) {
+        return true;
+    }
+    flags.nsw && leaves_signed(width, op, x, y)
+}
+
+/// The sum modulo 2^width.
+fn sum(width: u32, x: u128, y: u128) -> u128
+    requires { IsWidth width }
+    ensures { result ≡ sum_of width x y }
+{
+    cut(width, x.wrapping_add(y))
+}
+
+/// The difference modulo 2^width.
+fn difference(width: u32, x: u128, y: u128) -> u128
+    requires width { IsWidth width }
+    requires right { y < 2 ^ width }
+    ensures { result ≡ difference_of width x y }
+{
+    cut(width, x.wrapping_sub(y))
+}
+
+/// The product modulo 2^width.
+fn product(width: u32, x: u128, y: u128) -> u128
+    requires { IsWidth width }
+    ensures { result ≡ product_of width x y }
+{
+    cut(width, x.wrapping_mul(y))
+}
+
+/// The whole result modulo 2^width.
+fn wrapped(width: u32, op: Arith, x: u128, y: u128) -> u128
+    requires width { IsWidth width }
+    requires right { y < 2 ^ width }
+    requires no_shift { op ≢ Arith.Shl }
+    ensures { result ≡ wrap width (whole_result op (pos x) (pos y)) }
+{
+    match op {
+        Arith::Add => sum(width, x, y),
+        Arith::Sub => difference(width, x, y),
+        Arith::Mul => product(width, x, y),
         Arith::Shl => unreachable!(),
     }
 }
 
 /// `add`, `sub` and `mul`.
-pub fn sum<const W: u32>(op: Arith, flags: Flags, a: Val, b: Val) -> Done
-    requires width { IsWidth W }
-    requires operands { AreOfWidth W a b }
+pub fn arithmetic(width: u32, op: Arith, flags: Flags, a: Val, b: Val) -> Done
+    requires width { IsWidth width }
+    requires operands { AreOfWidth width a b }
     requires no_shift { op ≢ Arith.Shl }
-    ensures { result ≡ of_two (arithmetic op flags W) a b }
+    ensures { result ≡ of_two (arithmetic op flags width) a b }
 {
-    let Some(pair) = words::<W>(a, b) else {
+    let Some(Numbers { x, y }) = both_numbers(width, a, b) else {
         return POISON;
     };
-    let broken = breaks_flags(op, flags, pair.x, pair.y);
-    number_unless(broken, wrapped(op, pair.x, pair.y).bits())
-}
-
-/// The lesser number by the signed readings.
-fn signed_minimum<const W: u32>(x: Word<W>, y: Word<W>) -> Word<W>
-    ensures { result ≡ signed_minimum W x.entry y.entry }
-{
-    if y.signed() < x.signed() {
-        return y;
-    }
-    x
-}
-
-/// The greater number by the signed readings.
-fn signed_maximum<const W: u32>(x: Word<W>, y: Word<W>) -> Word<W>
-    ensures { result ≡ signed_maximum W x.entry y.entry }
-{
-    if x.signed() < y.signed() {
-        return y;
-    }
-    x
-}
-
-/// The whole sum, clamped to the numbers of the width.
-fn saturated_sum<const W: u32>(x: Word<W>, y: Word<W>) -> u128
-    ensures { result ≡ saturated_unsigned W Arith.Add x.entry y.entry }
-{
-    x.bits().saturating_add(y.bits()).min(most::<W>())
-}
-
-/// The whole difference, clamped to the numbers of the width.
-fn saturated_difference<const W: u32>(x: Word<W>, y: Word<W>) -> u128
-    ensures { result ≡ saturated_unsigned W Arith.Sub x.entry y.entry }
-{
-    x.bits().saturating_sub(y.bits())
-}
-
-/// The number of a whole number that is clamped to the signed range of the width.
-fn clamped<const W: u32>(whole: i128) -> Word<W>
-    requires { IsWidth W }
-    ensures { result ≡ wrap W (clamped_signed W whole) }
-{
-    let greatest = (most::<W>() >> 1) as i128;
-    Word::wrapped(whole.min(greatest).max(!greatest))
-}
-
-/// The whole sum of the readings, clamped to the signed range of the width.
-fn saturated_signed_sum<const W: u32>(x: Word<W>, y: Word<W>) -> Word<W>
-    ensures { result ≡ saturated_signed W Arith.Add x.entry y.entry }
-{
-    clamped(x.signed().saturating_add(y.signed()))
-}
-
-/// The whole difference of the readings, clamped to the signed range of the width.
-fn saturated_signed_difference<const W: u32>(x: Word<W>, y: Word<W>) -> Word<W>
-    ensures { result ≡ saturated_signed W Arith.Sub x.entry y.entry }
-{
-    clamped(x.signed().saturating_sub(y.signed()))
-}
-
-/// The intrinsics of two numbers.
-pub fn two_numbers<const W: u32>(fun: Fun2, a: Val, b: Val) -> Done
-    requires width { IsWidth W }
-    requires operands { AreOfWidth W a b }
-    ensures { result ≡ of_two (two_numbers fun W) a b }
-{
-    let Some(pair) = words::<W>(a, b) else {
-        return POISON;
-    };
-    Done::Is(Val::Number(chosen_or_clamped(fun, pair.x, pair.y)))
-}
-
-/// The number that an intrinsic of two numbers gives.
-fn chosen_or_clamped<const W: u32>(fun: Fun2, x: Word<W>, y: Word<W>) -> u128
-    ensures { result ≡ chosen_or_clamped fun W x.entry y.entry }
-{
-    match fun {
-        Fun2::Umin => x.bits().min(y.bits()),
-        Fun2::Umax => x.bits().max(y.bits()),
-        Fun2::Smin => signed_minimum(x, y).bits(),
-        Fun2::Smax => signed_maximum(x, y).bits(),
-        Fun2::UaddSat => saturated_sum(x, y),
-        Fun2::UsubSat => saturated_difference(x, y),
-        Fun2::SaddSat => saturated_signed_sum(x, y).bits(),
-        Fun2::SsubSat => saturated_signed_difference(x, y).bits(),
-    }
+    number_unless(
+        breaks_flags(width, op, flags, x, y),
+        wrapped(width, op, x, y),
+    )
 }
 
 /// The operation on whole numbers that an intrinsic with overflow does.
@@ -151,30 +196,28 @@ fn overflow_arith(over: Over) -> Arith
 }
 
 /// Whether the whole result leaves the range of the intrinsic.
-fn overflows<const W: u32>(over: Over, x: Word<W>, y: Word<W>) -> bool
-    ensures { result ≡ overflows over W x.entry y.entry }
+fn overflows(width: u32, over: Over, x: u128, y: u128) -> bool
+    requires width { IsWidth width }
+    requires left { x < 2 ^ width }
+    requires right { y < 2 ^ width }
+    ensures { result ≡ overflows over width x y }
 {
     let op = overflow_arith(over);
     match over {
-        Over::Uadd => x.overflows_u(op, y),
-        Over::Sadd => x.overflows_s(op, y),
-        Over::Usub => x.overflows_u(op, y),
-        Over::Ssub => x.overflows_s(op, y),
-        Over::Umul => x.overflows_u(op, y),
-        Over::Smul => x.overflows_s(op, y),
+        Over::Uadd | Over::Usub | Over::Umul => leaves_unsigned(width, op, x, y),
+        Over::Sadd | Over::Ssub | Over::Smul => leaves_signed(width, op, x, y),
     }
 }
 
 /// The intrinsics with overflow.
-pub fn with_overflow<const W: u32>(over: Over, a: Val, b: Val) -> Done
-    requires width { IsWidth W }
-    requires operands { AreOfWidth W a b }
-    ensures { result ≡ of_two (with_overflow over W) a b }
+pub fn with_overflow(width: u32, over: Over, a: Val, b: Val) -> Done
+    requires width { IsWidth width }
+    requires operands { AreOfWidth width a b }
+    ensures { result ≡ of_two (with_overflow over width) a b }
 {
-    let Some(pair) = words::<W>(a, b) else {
+    let Some(Numbers { x, y }) = both_numbers(width, a, b) else {
         return POISON;
     };
-    let overflowed = overflows(over, pair.x, pair.y);
-    let result = wrapped(overflow_arith(over), pair.x, pair.y);
-    Done::Is(Val::Pair(result.bits(), overflowed))
+    let result = wrapped(width, overflow_arith(over), x, y);
+    Done::Is(Val::Pair(result, overflows(width, over, x, y)))
 }

@@ -4,14 +4,15 @@
 mod arithmetic;
 mod bits;
 mod choice;
+mod clamp;
 mod compare;
 mod convert;
 mod division;
 mod laws;
+mod numbers;
 mod operation;
 mod shift;
 mod value;
-mod words;
 
 pub use laws::{
     calls_are_seen_in_order, functions_have_outcomes, operations_keep_order_and_types,

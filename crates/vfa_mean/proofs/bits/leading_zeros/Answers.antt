@@ -2,9 +2,9 @@ use Rattle.vfa_mean.proofs.Counts.{leading_is}
 use Rattle.vfa_mean.proofs.bits.leading_zeros.Goals as goal
 
 pub overflow_sub-result-2 : goal.overflow_sub-result-2
-overflow_sub-result-2 g c = (leading_is g.row.W c.bits.result c.bits.ensures.width.most c.bits.ensures.bound).room
+overflow_sub-result-2 c = (leading_is c.args.width c.args.x c.requires.width.most c.requires.number).room
 
 pub returns : goal.returns
-returns g c =
-    let e = (leading_is g.row.W c.bits.result c.bits.ensures.width.most c.bits.ensures.bound).count in
+returns c =
+    let e = (leading_is c.args.width c.args.x c.requires.width.most c.requires.number).count in
     cc

@@ -1,7 +1,7 @@
 use Rattle.std.specs.Int.{w128}
 use Rattle.std.proofs.lemmas.Int.{to_z-of_z}
 use Rattle.vfa_word.proofs.Wrapping.{wrap_of_bits}
-use Rattle.vfa_mean.proofs.convert.wrapped.Goals as goal
+use Rattle.vfa_mean.proofs.numbers.wrapped.Goals as goal
 
 pub returns : goal.returns
 returns c =
