@@ -1,3 +1,4 @@
+pub mod Defined
 pub mod DefinedNames
 pub mod Grammar
 pub mod Lexemes
@@ -14,4 +15,5 @@ pub mod TextLines
 pub mod TokenLexemes
 pub mod Tokens
 pub mod Typed
+pub mod Walks
 pub mod Words

@@ -1,0 +1,9 @@
+pub mod Laws
+pub mod Meaning
+pub mod Moments
+pub mod Operands
+pub mod Outcomes
+pub mod Refines
+pub mod Rows
+pub mod Values
+pub mod Worked
