@@ -6,3 +6,5 @@ pub mod Compare
 pub mod Order
 pub mod Interval
 pub mod Cells
+pub mod Cuts
+pub mod CellCuts

@@ -41,6 +41,15 @@ pub struct CellEnds {
     pub shi: i128,
 }
 
+/// Numbers of a cell below its width, by which a shift is possible.
+#[derive(Clone, Copy)]
+pub struct CellAmounts {
+    /// Bit t says that the amount t is possible.
+    pub mask: u128,
+    /// The least and greatest amounts, and the least and greatest signed readings, which are the same.
+    pub ends: CellEnds,
+}
+
 impl Model for Cell {
     ghost use Rattle.vfa_fact.specs.Cells.{CellValue, IsCell};
 
@@ -50,12 +59,12 @@ impl Model for Cell {
 
     ghost inverse = { λ v. record { width = v.width; numbers = v.numbers; never_poison = v.never_poison } };
 
-    ghost invariant = { λ a. IsCell a.width a.numbers a.never_poison };
+    ghost invariant = { λ a. IsCell (record { width = a.width; numbers = a.numbers; never_poison = a.never_poison }) };
 }
 
 impl<const W: u32> Fact<W> {
     /// The plain numbers of the fact.
-    fn numbers(&self) -> Numbers
+    pub(crate) fn numbers(&self) -> Numbers
         ensures { result ≡ numbers_of self.now }
     {
         Numbers {
@@ -73,6 +82,7 @@ impl Cell {
         ensures width { result.width ≡ W }
         ensures numbers { result.numbers ≡ Some (numbers_of fact.now) }
         ensures mark { result.never_poison ≡ never_poison }
+        ensures cell { IsCell result }
     {
         Cell {
             width: W,
@@ -85,7 +95,7 @@ impl Cell {
     pub fn typed<const W: u32>(&self) -> Option<Fact<W>>
         requires { self.now.width ≡ W }
         ensures numbers { option_map numbers_of result ≡ self.now.numbers }
-        ensures cell { IsCell self.now.width self.now.numbers self.now.never_poison }
+        ensures cell { IsCell self.now }
     {
         match &self.numbers {
             Some(numbers) => Some(Fact::from_numbers(numbers)),

@@ -1,49 +1,44 @@
-ghost use Rattle.std.specs.Prelude.{◌≡◌};
+ghost use Rattle.std.specs.Prelude.{◌≡◌, ◌≢◌, ℕ, ◌<◌, ◌^◌, ◌&&◌, IsTrue, IsSomeAnd, IfSome};
+ghost use Rattle.std.specs.Int.{bit_at};
 ghost use Rattle.std.specs.Option.{option_map};
-ghost use Rattle.vfa_fact.specs.Cells.{joined_cells, decided_cells, compared_cells, cell_ends, shown_cell_ends};
+ghost use Rattle.vfa_fact.specs.Cells.{IsCell, in_cell, joined_numbers, joined_cells, decided_cells, compared_cells};
+ghost use Rattle.vfa_fact.specs.CellCuts.{shown_cell_ends, shown_cell_amounts, cell_ends, cell_amounts, cell_divisors};
+ghost use Rattle.vfa_fact.specs.Compare.{satisfies};
+ghost use Rattle.vfa_wrap.specs.Between.{Between, AreEnds};
+ghost use Rattle.vfa_wrap.specs.Ends.{shown_ends};
+ghost use Rattle.vfa_wrap.specs.Rows.{AreAmounts, AreDivisors};
 
-use crate::Fact;
-use crate::cell::{Cell, CellEnds};
+use crate::at_width;
+use crate::cell::{Cell, CellAmounts, CellEnds};
+use crate::{Fact, Numbers};
 use vfa_dom::Domain;
 use vfa_ir::Pred;
+use vfa_wrap::Ends;
 
-// the call at the width, which is 1 to 128
-macro_rules! at_width {
-    ($width:expr, $call:ident, $args:tt) => {
-        at_width!(
-            $width, $call, $args,
-            1 2 3 4 5 6 7 8 9 10 11 12 13 14 15 16
-            17 18 19 20 21 22 23 24 25 26 27 28 29 30 31 32
-            33 34 35 36 37 38 39 40 41 42 43 44 45 46 47 48
-            49 50 51 52 53 54 55 56 57 58 59 60 61 62 63 64
-            65 66 67 68 69 70 71 72 73 74 75 76 77 78 79 80
-            81 82 83 84 85 86 87 88 89 90 91 92 93 94 95 96
-            97 98 99 100 101 102 103 104 105 106 107 108 109 110 111 112
-            113 114 115 116 117 118 119 120 121 122 123 124 125 126 127 128
-        )
-    };
-    ($width:expr, $call:ident, $args:tt, $($n:literal)*) => {
-        match $width {
-            $($n => $call::<$n> $args,)*
-            _ => unreachable!(),
-        }
-    };
-}
-
-/// The join of two cells of width `W`.
-fn join_at<const W: u32>(a: &Cell, b: &Cell) -> Cell
+/// The numbers of two cells of width `W` together.
+fn join_at<const W: u32>(a: &Cell, b: &Cell) -> Option<Numbers>
     requires left { a.now.width ≡ W }
     requires right { b.now.width ≡ W }
-    ensures { result ≡ joined_cells a.now b.now }
+    ensures { result ≡ joined_numbers a.now.width a.now.numbers b.now.numbers }
 {
     let Some(one) = a.typed::<W>() else {
-        return *b;
+        return b.numbers;
     };
     let Some(two) = b.typed::<W>() else {
-        return *a;
+        return a.numbers;
     };
-    let never_poison = a.never_poison && b.never_poison;
-    Cell::of(&one.join(&two), never_poison)
+    Some(one.join(&two).numbers())
+}
+
+/// The numbers of two cells of one width together.
+fn numbers_of_both(a: &Cell, b: &Cell) -> Option<Numbers>
+    requires { a.now.width ≡ b.now.width }
+    ensures { result ≡ joined_numbers a.now.width a.now.numbers b.now.numbers }
+{
+    if a.numbers == b.numbers {
+        return a.numbers;
+    }
+    at_width!(a.width, join_at, (a, b))
 }
 
 /// What the comparison of two cells of width `W` answers.
@@ -79,6 +74,18 @@ fn compare_at<const W: u32>(pred: Pred, a: &Cell, b: &Cell) -> Option<Cell>
     }
 }
 
+/// The same ends, without a width of their own.
+fn ends_of_cell<const W: u32>(ends: &Ends<W>) -> CellEnds
+    ensures { shown_cell_ends result ≡ shown_ends ends.now }
+{
+    CellEnds {
+        lo: ends.lo,
+        hi: ends.hi,
+        slo: ends.slo,
+        shi: ends.shi,
+    }
+}
+
 /// The ends of the numbers of a cell of width `W`.
 fn ends_at<const W: u32>(a: &Cell) -> Option<CellEnds>
     requires { a.now.width ≡ W }
@@ -87,25 +94,79 @@ fn ends_at<const W: u32>(a: &Cell) -> Option<CellEnds>
     let Some(fact) = a.typed::<W>() else {
         return None;
     };
-    let ends = fact.ends();
-    Some(CellEnds {
-        lo: ends.lo,
-        hi: ends.hi,
-        slo: ends.slo,
-        shi: ends.shi,
+    Some(ends_of_cell(&fact.ends()))
+}
+
+/// The amounts among the numbers of a cell of width `W`.
+fn amounts_at<const W: u32>(a: &Cell) -> Option<CellAmounts>
+    requires { a.now.width ≡ W }
+    ensures { option_map shown_cell_amounts result ≡ cell_amounts a.now }
+{
+    let amounts = a.typed::<W>()?.amounts()?;
+    Some(CellAmounts {
+        mask: amounts.mask,
+        ends: ends_of_cell(&amounts.ends),
     })
 }
 
+/// The ends of the divisors among the numbers of a cell of width `W`.
+fn divisors_at<const W: u32>(a: &Cell) -> Option<CellEnds>
+    requires { a.now.width ≡ W }
+    ensures { option_map shown_cell_ends result ≡ cell_divisors a.now }
+{
+    let ends = a.typed::<W>()?.divisors()?;
+    Some(ends_of_cell(&ends))
+}
+
+/// What the comparison leaves of the first of two cells of one width.
+fn compared(pred: Pred, a: &Cell, b: &Cell) -> Option<Cell>
+    requires { a.now.width ≡ b.now.width }
+    ensures { result ≡ compared_cells pred a.now b.now }
+{
+    at_width!(a.width, compare_at, (pred, a, b))
+}
+
+/// The ends of the numbers of the cell.
+fn ends_by_width(a: &Cell) -> Option<CellEnds>
+    ensures { option_map shown_cell_ends result ≡ cell_ends a.now }
+{
+    at_width!(a.width, ends_at, (a))
+}
+
+/// The amounts among the numbers of the cell.
+fn amounts_by_width(a: &Cell) -> Option<CellAmounts>
+    ensures { option_map shown_cell_amounts result ≡ cell_amounts a.now }
+{
+    at_width!(a.width, amounts_at, (a))
+}
+
+/// The ends of the divisors among the numbers of the cell.
+fn divisors_by_width(a: &Cell) -> Option<CellEnds>
+    ensures { option_map shown_cell_ends result ≡ cell_divisors a.now }
+{
+    at_width!(a.width, divisors_at, (a))
+}
+
 impl Cell {
-    /// The join of two cells of one width: the fact of the numbers that agree with the bits known alike in both and lie
-    /// in the hull of the two arcs, never poison where both are. A cell without numbers gives way to the other.
+    /// The join of two cells of one width, for a value of the one or of the other: the fact of the numbers that agree with
+    /// the bits known alike in both and lie in the hull of the two arcs, never poison exactly where both are. A cell
+    /// without numbers gives way to the numbers of the other, and the value may then be poison.
     ///
-    /// At width 8, the cells of 4 and of 12, both never poison, join to `0000?100` from 4 to 12, never poison.
+    /// At width 8, the cells of 4 and of 12, both never poison, join to `0000?100` from 4 to 12, never poison; only poison
+    /// and 5, never poison, join to 5 that may be poison.
     pub fn join(&self, other: &Cell) -> Cell
         requires { self.now.width ≡ other.now.width }
-        ensures { result ≡ joined_cells self.now other.now }
+        ensures exact { result ≡ joined_cells self.now other.now }
+        ensures cell { IsCell result }
+        ensures covers_self { (x : ℕ) → IsTrue (in_cell self.now x) → IsTrue (in_cell result x) }
+        ensures covers_other { (x : ℕ) → IsTrue (in_cell other.now x) → IsTrue (in_cell result x) }
+        ensures mark { result.never_poison ≡ (self.now.never_poison && other.now.never_poison) }
     {
-        at_width!(self.width, join_at, (self, other))
+        Cell {
+            width: self.width,
+            numbers: numbers_of_both(self, other),
+            never_poison: self.never_poison && other.never_poison,
+        }
     }
 
     /// What the comparison answers for all pairs of numbers of two cells of one width: Some(true) exactly where all
@@ -126,19 +187,51 @@ impl Cell {
     /// At width 8, 0 to 200 compared by `ugt` with 9 to 20 is 10 to 200, never poison.
     pub fn compare(&self, pred: Pred, other: &Cell) -> Option<Cell>
         requires { self.now.width ≡ other.now.width }
-        ensures { result ≡ compared_cells pred self.now other.now }
+        ensures exact { result ≡ compared_cells pred self.now other.now }
+        ensures cell { IfSome result IsCell }
+        ensures keeps { (x y : ℕ) → IsTrue (in_cell self.now x) → IsTrue (in_cell other.now y) →
+            IsTrue (satisfies self.now.width pred x y) → IsSomeAnd result (λ rest. IsTrue (in_cell rest x)) }
     {
-        at_width!(self.width, compare_at, (pred, self, other))
+        compared(pred, self, other)
     }
 
     /// The least and greatest numbers of the cell, and the least and greatest signed readings of its numbers; None
-    /// exactly where it has none.
+    /// exactly where it has none. Each number lies between them in both readings, and each of the four is reached.
     ///
     /// At width 8, the cell of 250 to 4 has the ends 0 and 255, and -6 and 4.
     pub fn ends(&self) -> Option<CellEnds>
-        ensures { option_map shown_cell_ends result ≡ cell_ends self.now }
+        ensures exact { option_map shown_cell_ends result ≡ cell_ends self.now }
+        ensures cell { IsCell self.now }
+        ensures reached { IfSome result (λ e. AreEnds self.now.width (shown_cell_ends e)) }
+        ensures between { (x : ℕ) → IsTrue (in_cell self.now x) →
+            IsSomeAnd result (λ e. Between self.now.width (shown_cell_ends e) x) }
     {
-        at_width!(self.width, ends_at, (self))
+        ends_by_width(self)
+    }
+
+    /// The numbers of the cell below its width, which are the amounts by which a shift is possible; None exactly where there
+    /// is none.
+    ///
+    /// At width 6, of the cell of 3 up to 1 they are 0, 1, 3, 4 and 5, with the mask `111011`.
+    pub fn amounts(&self) -> Option<CellAmounts>
+        ensures exact { option_map shown_cell_amounts result ≡ cell_amounts self.now }
+        ensures usable { IfSome result (λ a. AreAmounts self.now.width (shown_cell_ends a.ends)) }
+        ensures covers { (t : ℕ) → t < self.now.width → IsTrue (in_cell self.now t) →
+            IsSomeAnd result (λ a. Between self.now.width (shown_cell_ends a.ends) t × (bit_at a.mask t ≡ 1)) }
+    {
+        amounts_by_width(self)
+    }
+
+    /// The ends of the numbers of the cell other than 0, by which a division is possible; None exactly where there is none.
+    ///
+    /// At width 8, of the cell of 254 up to 3 they are 1 and 255, and -2 and 3.
+    pub fn divisors(&self) -> Option<CellEnds>
+        ensures exact { option_map shown_cell_ends result ≡ cell_divisors self.now }
+        ensures usable { IfSome result (λ e. AreDivisors self.now.width (shown_cell_ends e)) }
+        ensures covers { (y : ℕ) → y ≢ 0 → IsTrue (in_cell self.now y) →
+            IsSomeAnd result (λ e. Between self.now.width (shown_cell_ends e) y) }
+    {
+        divisors_by_width(self)
     }
 }
 

@@ -1,4 +1,4 @@
-ghost use Rattle.std.specs.Prelude.{◌≡◌, ℕ, ◌<◌, ◌-◌, ◌^◌};
+ghost use Rattle.std.specs.Prelude.{◌≡◌, ℕ, ◌<◌, ◌-◌, ◌^◌, IsTrue};
 ghost use Rattle.vfa_dom.specs.Search.{least_below, greatest_below};
 ghost use Rattle.vfa_fact.specs.Sharp.{first_from, last_from};
 ghost use Rattle.vfa_wrap.specs.Places.{in_signed_order, reading_at};
@@ -10,7 +10,7 @@ use vfa_wrap::Ends;
 
 impl<const W: u32> Fact<W> {
     ghost use Rattle.vfa_known.specs.Known.{in_known};
-    ghost use Rattle.vfa_wrap.specs.Between.{AreEnds};
+    ghost use Rattle.vfa_wrap.specs.Between.{AreEnds, Between};
     ghost use Rattle.vfa_wrap.specs.Ends.{ends_of, shown_ends};
     ghost use Rattle.vfa_fact.specs.Views.{numbers_of, in_fact};
 
@@ -78,12 +78,14 @@ impl<const W: u32> Fact<W> {
         Fact::signed_last(&self.known).signed()
     }
 
-    /// The least and greatest members, and the least and greatest signed readings of members.
+    /// The least and greatest members, and the least and greatest signed readings of members: each member lies between
+    /// them in both readings.
     ///
     /// At width 8, the even numbers in the arc from 250 to 4 have the ends 0 and 254, and -6 and 4.
     pub fn ends(&self) -> Ends<W>
         ensures value { shown_ends result ≡ ends_of W (in_fact W self.now) }
         ensures reached { AreEnds W (shown_ends result) }
+        ensures between { (x : ℕ) → IsTrue (in_fact W self.now x) → Between W (shown_ends result) x }
     {
         let lo = self.least();
         let hi = self.greatest();

@@ -3,6 +3,8 @@
 
 mod cell;
 mod cell_calls;
+mod cell_values;
+mod cuts;
 mod decide;
 mod domain;
 mod ends;
@@ -13,8 +15,10 @@ mod partners;
 mod restrict;
 mod sharp;
 mod test;
+mod widths;
 
-pub use cell::{Cell, CellEnds, Parts};
+pub use cell::{Cell, CellAmounts, CellEnds, Parts};
+pub use cuts::Amounts;
 pub use fact::Fact;
 pub use numbers::Numbers;
 pub use test::Test;

@@ -1,9 +1,9 @@
-ghost use Rattle.std.specs.Prelude.{◌≡◌, ◌<◌, ◌^◌};
+ghost use Rattle.std.specs.Prelude.{◌≡◌, ℕ, ◌<◌, ◌^◌, IsTrue, IsSomeAnd};
 ghost use Rattle.std.specs.Option.{option_map};
 ghost use Rattle.vfa_dom.specs.Sets.{meet};
 ghost use Rattle.vfa_fact.specs.Fact.{IsFact};
-ghost use Rattle.vfa_fact.specs.Interval.{interval, joined};
-ghost use Rattle.vfa_fact.specs.Sharp.{sharp_of};
+ghost use Rattle.vfa_fact.specs.Interval.{part_of, joined};
+ghost use Rattle.vfa_fact.specs.Sharp.{sharp_in};
 ghost use Rattle.vfa_word.specs.Numbers.{IsWidth};
 
 use crate::fact::Fact;
@@ -40,7 +40,7 @@ impl<const W: u32> Test<W> {
         requires low_fits { low < 2 ^ W }
         requires high_fits { high < 2 ^ W }
         requires width { IsWidth W }
-        ensures { result ≡ sharp_of W 0 (meet (interval low high) (in_known W self.now.cube)) }
+        ensures { result ≡ part_of W low high (in_known W self.now.cube) }
     {
         let first = self.cube.first_at_or_after(low)?;
         let last = self.cube.last_at_or_before(high)?;
@@ -58,11 +58,11 @@ impl<const W: u32> Test<W> {
     }
 
     /// The same of the numbers that are in the arc `one` too.
-    fn in_one(&self, low: u128, high: u128) -> Option<Numbers>
+    pub(crate) fn in_one(&self, low: u128, high: u128) -> Option<Numbers>
         requires low_fits { low < 2 ^ W }
         requires high_fits { high < 2 ^ W }
         requires width { IsWidth W }
-        ensures { result ≡ sharp_of W 0 (meet (interval low high) (meet (in_arc W self.now.one) (in_known W self.now.cube))) }
+        ensures { result ≡ part_of W low high (meet (in_arc W self.now.one) (in_known W self.now.cube)) }
     {
         let first = self.one.first().bits();
         let last = self.one.last().bits();
@@ -79,8 +79,8 @@ impl<const W: u32> Test<W> {
         requires low_fits { low < 2 ^ W }
         requires high_fits { high < 2 ^ W }
         requires width { IsWidth W }
-        ensures { result ≡ sharp_of W 0
-            (meet (interval low high) (meet (in_arc W self.now.two) (meet (in_arc W self.now.one) (in_known W self.now.cube)))) }
+        ensures { result ≡ part_of W low high
+            (meet (in_arc W self.now.two) (meet (in_arc W self.now.one) (in_known W self.now.cube))) }
     {
         let first = self.two.first().bits();
         let last = self.two.last().bits();
@@ -94,8 +94,8 @@ impl<const W: u32> Test<W> {
 
     /// The sharp numbers of the arc's numbers that pass the test.
     fn within(&self, arc: &Wrapped<W>) -> Option<Numbers>
-        ensures { result ≡ sharp_of W (span_of arc.now).first
-            (meet (in_arc W arc.now) (meet (in_arc W self.now.two) (meet (in_arc W self.now.one) (in_known W self.now.cube)))) }
+        ensures { result ≡ sharp_in W (span_of arc.now)
+            (meet (in_arc W self.now.two) (meet (in_arc W self.now.one) (in_known W self.now.cube))) }
     {
         let first = arc.first().bits();
         let last = arc.last().bits();
@@ -109,7 +109,7 @@ impl<const W: u32> Test<W> {
 impl<const W: u32> Fact<W> {
     ghost use Rattle.vfa_known.specs.Known.{in_known};
     ghost use Rattle.vfa_wrap.specs.Wrapped.{span_of, in_arc};
-    ghost use Rattle.vfa_fact.specs.Views.{numbers_of, in_test};
+    ghost use Rattle.vfa_fact.specs.Views.{numbers_of, in_fact, in_test};
 
     /// The fact with these numbers, which are those of a fact.
     pub(crate) fn from_numbers(numbers: &Numbers) -> Fact<W>
@@ -130,8 +130,10 @@ impl<const W: u32> Fact<W> {
     /// At width 8, the multiples of 4 in the arc from 5 to 17, with no test, are the numbers of the fact `000???00` from 8
     /// to 16.
     pub fn sharp(known: Known<W>, arc: Wrapped<W>, test: &Test<W>) -> Option<Fact<W>>
-        ensures { option_map numbers_of result
-            ≡ sharp_of W (span_of arc.entry).first (meet (in_known W known.entry) (meet (in_arc W arc.entry) (in_test W test.now))) }
+        ensures exact { option_map numbers_of result
+            ≡ sharp_in W (span_of arc.entry) (meet (in_known W known.entry) (in_test W test.now)) }
+        ensures covers { (x : ℕ) → IsTrue (in_known W known.entry x) → IsTrue (in_arc W arc.entry x) →
+            IsTrue (in_test W test.now x) → IsSomeAnd result (λ fact. IsTrue (in_fact W fact x)) }
     {
         let cube = known.agree(&test.cube)?;
         let one = test.one;

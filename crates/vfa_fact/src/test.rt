@@ -1,6 +1,8 @@
-ghost use Rattle.std.specs.Prelude.{◌≡◌, ℕ, ◌<◌, ◌^◌, true};
+ghost use Rattle.std.specs.Prelude.{◌≡◌, ℕ, ◌<◌, ◌^◌, true, IsTrue};
+ghost use Rattle.std.specs.Bool.{OnTrue};
 ghost use Rattle.vfa_word.specs.Numbers.{IsWidth};
 
+use crate::fact::Fact;
 use vfa_dom::Domain;
 use vfa_known::Known;
 use vfa_wrap::Wrapped;
@@ -17,11 +19,11 @@ pub struct Test<const W: u32> {
 }
 
 impl<const W: u32> Test<W> {
-    ghost use Rattle.vfa_fact.specs.Views.{in_test};
+    ghost use Rattle.vfa_fact.specs.Views.{in_test, in_fact};
     ghost use Rattle.vfa_wrap.specs.Wrapped.{in_arc};
 
     /// The condition that each number meets.
-    pub(crate) fn any() -> Test<W>
+    pub fn any() -> Test<W>
         requires { IsWidth W }
         ensures { (x : ℕ) → x < 2 ^ W → in_test W result x ≡ true }
     {
@@ -33,7 +35,7 @@ impl<const W: u32> Test<W> {
     }
 
     /// The condition to lie in the arc.
-    pub(crate) fn inside(arc: Wrapped<W>) -> Test<W>
+    pub fn inside(arc: Wrapped<W>) -> Test<W>
         ensures { (x : ℕ) → x < 2 ^ W → in_test W result x ≡ in_arc W arc.entry x }
     {
         Test {
@@ -41,5 +43,18 @@ impl<const W: u32> Test<W> {
             one: arc,
             two: Wrapped::any(),
         }
+    }
+
+    /// Whether the test keeps the whole fact, seen by its masks and its arcs: a yes means that each member passes.
+    pub(crate) fn keeps(&self, fact: &Fact<W>) -> bool
+        ensures { OnTrue result ((x : ℕ) → IsTrue (in_fact W fact.now x) → IsTrue (in_test W self.now x)) }
+    {
+        if !self.cube.includes(&fact.known()) {
+            return false;
+        }
+        if !self.one.includes(&fact.arc()) {
+            return false;
+        }
+        self.two.includes(&fact.arc())
     }
 }

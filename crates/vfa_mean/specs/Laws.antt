@@ -1,7 +1,6 @@
 -- What the table of meanings keeps to, in the words that the layers above use.
-use Rattle.std.specs.Prelude.{◌≡◌, ◌<◌, ◌^◌, ◌↔◌, ℕ, Bool, true, false, List, [], ◌∷◌, All, ⊤, codes}
+use Rattle.std.specs.Prelude.{◌≡◌, ◌<◌, ◌^◌, ◌↔◌, ℕ, Bool, true, false, List, [], ⊤}
 use Rattle.vfa_ir.specs.declared.operations.Op.{Op}
-use Rattle.vfa_ir.specs.declared.operations.Operand.{Operand}
 use Rattle.vfa_ir.specs.declared.functions.Function.{Function}
 use Rattle.vfa_ir.specs.Printable.{op_type}
 use Rattle.vfa_mean.specs.declared.value.Done.{Done}
@@ -9,8 +8,7 @@ use Rattle.vfa_mean.specs.declared.value.Val.{Val}
 use Rattle.vfa_mean.specs.Values.{IsValueOf, AllowsValue}
 use Rattle.vfa_mean.specs.Meaning.{Result, Undefined, Gave, Allowed, done}
 use Rattle.vfa_mean.specs.Operands.{IsOperation, AreValuesFor}
-use Rattle.vfa_mean.specs.Outcomes.{Outcome, End, Going, Stopped, Ub, Returned, Out}
-use Rattle.vfa_mean.specs.Worked.{twice, last, outcome, event, passed_byte}
+use Rattle.vfa_mean.specs.Outcomes.{Outcome, Out}
 
 -- The first result allows the second in its place: undefined behaviour every result, poison every value.
 abbrev pub AllowsResult : Result → Result → Type 0
@@ -19,8 +17,8 @@ AllowsResult (Gave v) (Gave v') = AllowsValue v v'
 AllowsResult (Gave v) Undefined = ⊥
 
 -- each result of the second is allowed by one of the first
-abbrev pub AllowsDone : Done → Done → Type 0
-AllowsDone d d' = (r' : Result) → Allowed d' r' → (r : Result) × Allowed d r × AllowsResult r r'
+pub record AllowsDone (d d' : Done) : Type 0 where
+  pub each : (r' : Result) → Allowed d' r' → (r : Result) × Allowed d r × AllowsResult r r'
 
 -- Monotony: where some operands become poison, the operation has undefined behaviour, or gives poison or the same.
 abbrev pub IsMonotone : Op → Type 0

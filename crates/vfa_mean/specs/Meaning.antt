@@ -1,17 +1,16 @@
 -- What an operation gives of values, after the LLVM Language Reference, "Instruction Reference", "Poison Values" and
 -- "Undefined Values": it has undefined behaviour, gives one value, or any number of a width. The rows of numbers stand in
 -- `Rows`; here is what becomes of poison.
-use Rattle.std.specs.Prelude.{◌≡◌, ◌<◌, ◌-◌, ◌^◌, ℕ, Bool, ◌&&◌, ◌||◌, nat_eq, bit_and, bit_xor, false, if◌then◌else◌}
+use Rattle.std.specs.Prelude.{◌≡◌, ◌<◌, ◌-◌, ◌^◌, ℕ, ◌&&◌, ◌||◌, nat_eq, if◌then◌else◌}
 use Rattle.vfa_ir.specs.declared.operations.Bin.{Bin}
 use Rattle.vfa_ir.specs.declared.operations.Flags.{Flags}
 use Rattle.vfa_ir.specs.declared.operations.Op.{Op}
 use Rattle.vfa_ir.specs.declared.operations.Operand.{Operand}
 use Rattle.vfa_word.specs.declared.arith.Arith.{Arith}
-use Rattle.vfa_word.specs.Operations.{unsigned_remainder, signed_remainder}
 use Rattle.vfa_mean.specs.declared.value.Done.{Done}
 use Rattle.vfa_mean.specs.declared.value.Val.{Val}
 use Rattle.vfa_mean.specs.Values.{Env, operand_value}
-use Rattle.vfa_mean.specs.Rows.{number_unless, arithmetic, shift_left, shift_right, shift_right_signed, divide, divide_signed, bitwise_or, bit_of, compare, convert, two_numbers, one_number, with_overflow}
+use Rattle.vfa_mean.specs.Rows.{arithmetic, shift_left, shift_right, shift_right_signed, divide, divide_signed, remainder, remainder_signed, bitwise_and, bitwise_or, bitwise_xor, bit_of, compare, convert, two_numbers, one_number, with_overflow}
 
 -- an operation on one number, or two: a poison operand gives poison
 abbrev pub of_one : (ℕ → Done) → Val → Done
@@ -50,11 +49,11 @@ binary Bin.Udiv flags w a b = unsigned_division (divide flags) a b
 binary Bin.Sdiv flags w a b = signed_division w (divide_signed flags w) a b
 binary Bin.Lshr flags w a b = of_two (shift_right flags w) a b
 binary Bin.Ashr flags w a b = of_two (shift_right_signed flags w) a b
-binary Bin.Urem flags w a b = unsigned_division (λ x y. number_unless false (unsigned_remainder x y)) a b
-binary Bin.Srem flags w a b = signed_division w (λ x y. number_unless false (signed_remainder w x y)) a b
-binary Bin.And flags w a b = of_two (λ x y. number_unless false (bit_and x y)) a b
+binary Bin.Urem flags w a b = unsigned_division remainder a b
+binary Bin.Srem flags w a b = signed_division w (remainder_signed w) a b
+binary Bin.And flags w a b = of_two bitwise_and a b
 binary Bin.Or flags w a b = of_two (bitwise_or flags) a b
-binary Bin.Xor flags w a b = of_two (λ x y. number_unless false (bit_xor x y)) a b
+binary Bin.Xor flags w a b = of_two bitwise_xor a b
 
 -- `select`: poison by a poison condition, else the chosen arm; the other arm does not count
 abbrev pub chosen : Val → Val → Val → Done
@@ -85,7 +84,7 @@ done (Op.Icmp pred samesign w _ _) a b c = of_two (compare pred samesign w) a b
 done (Op.Select w _ _ _) a b c = chosen c a b
 done (Op.Cast cast flags v w _) a b c = of_one (convert cast flags v w) a
 done (Op.Freeze w _) a b c = frozen w a
-done (Op.Two fun w _ _) a b c = of_two (λ x y. number_unless false (two_numbers fun w x y)) a b
+done (Op.Two fun w _ _) a b c = of_two (two_numbers fun w) a b
 done (Op.One fun w _ strict) a b c = of_one (one_number fun strict w) a
 done (Op.Over over w _ _) a b c = of_two (with_overflow over w) a b
 done (Op.Part w _ index) a b c = part_of index c

@@ -1,6 +1,6 @@
 -- The moments of a function: the places that its runs come to, each with the values that the names have there. A run that
 -- is undefined comes to no further place.
-use Rattle.std.specs.Prelude.{ℕ, zero, suc, ◌≡◌, Bool, true, false, Option, Some, None, List, length, slice_get}
+use Rattle.std.specs.Prelude.{ℕ, suc, ◌≡◌, Bool, true, false, Option, Some, None, List, length, slice_get}
 use Rattle.vfa_ir.specs.declared.operations.Op.{Op}
 use Rattle.vfa_ir.specs.declared.functions.Block.{Block}
 use Rattle.vfa_ir.specs.declared.functions.CallOp.{CallOp}

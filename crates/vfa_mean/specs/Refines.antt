@@ -7,7 +7,7 @@ use Rattle.vfa_ir.specs.declared.functions.Function.{Function}
 use Rattle.vfa_ir.specs.declared.functions.Param.{Param}
 use Rattle.vfa_mean.specs.declared.value.Val.{Val}
 use Rattle.vfa_mean.specs.Values.{AllowsValue}
-use Rattle.vfa_mean.specs.Outcomes.{Passed, Event, End, Going, Stopped, Ub, Returned, Outcome, type_of, parameter_types, AreArguments, IsAnswer, Out}
+use Rattle.vfa_mean.specs.Outcomes.{Passed, Event, End, Ub, Returned, Outcome, type_of, parameter_types, AreArguments, IsAnswer, Out}
 
 -- an argument allows one of the same width
 pub record AllowsPassed (a a' : Passed) : Type 0 where
@@ -49,13 +49,16 @@ pub record ParameterHead : Type 0 where
   pub ty : Ty
   pub words : List (List ℕ)
 
+abbrev pub parameter_head : Function → Param → ParameterHead
+parameter_head f p = record {
+  name = option_and_then (λ v. v.name) (slice_get f.values p.value.0);
+  ty = type_of f p.value;
+  words = p.words;
+}
+
 -- the parameters in order; one without a name is shown by its number among these
 abbrev pub parameters_of : Function → List ParameterHead
-parameters_of f = map (λ (p : Param). record {
-      name = option_and_then (λ v. v.name) (slice_get f.values p.value.0);
-      ty = type_of f p.value;
-      words = p.words;
-    }) f.params
+parameters_of f = map (parameter_head f) f.params
 
 -- the two functions are defined by the same words up to their bodies
 pub record SameHeader (f g : Function) : Type 0 where

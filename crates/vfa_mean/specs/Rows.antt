@@ -1,7 +1,6 @@
 -- What each operation gives of numbers, after the LLVM Language Reference, "Instruction Reference" and "Intrinsic
 -- Functions". A word such as `nsw` makes the result poison where it does not hold. All numbers are of width w.
-use Rattle.std.specs.Prelude.{ℕ, ◌-◌, ◌*◌, ◌%◌, ◌^◌, Bool, false, not, ◌&&◌, ◌||◌, pos, ◌*ℤ◌, int_lt, nat_eq, nat_le, bit_and, bit_or, bit_xor, if◌then◌else◌}
-use Rattle.vfa_ir.specs.declared.operations.Bin.{Bin}
+use Rattle.std.specs.Prelude.{ℕ, ◌-◌, ◌*◌, ◌%◌, ◌^◌, Bool, true, false, not, ◌&&◌, ◌||◌, pos, ◌*ℤ◌, int_lt, nat_eq, nat_le, bit_and, bit_or, bit_xor, if◌then◌else◌}
 use Rattle.vfa_ir.specs.declared.operations.Cast.{Cast}
 use Rattle.vfa_ir.specs.declared.operations.CastFlags.{CastFlags}
 use Rattle.vfa_ir.specs.declared.operations.Flags.{Flags}
@@ -19,6 +18,9 @@ use Rattle.vfa_mean.specs.declared.value.Val.{Val}
 -- a number; poison where a word of the operation is broken
 abbrev pub number_unless : Bool → ℕ → Done
 number_unless broken x = Done.Is (if broken then Val.Poison else Val.Number x)
+
+abbrev pub number : ℕ → Done
+number x = Done.Is (Val.Number x)
 
 abbrev pub is_negative : ℕ → ℕ → Bool
 is_negative w x = int_lt (signed_of w x) (pos 0)
@@ -39,10 +41,15 @@ arithmetic op flags w x y = number_unless
 
 -- ---- `shl`, `lshr`, `ashr`: poison where the amount t is w or more. `nuw` and `nsw` of `shl` are those of the product
 -- by 2^t, and `exact` is broken where 2^t does not divide the number, so that a one is shifted out
+abbrev pub shift_leaves_unsigned : ℕ → ℕ → ℕ → Bool
+shift_leaves_unsigned w x t = not (fits_unsigned w (pos (x * 2 ^ t)))
+
+abbrev pub shift_leaves_signed : ℕ → ℕ → ℕ → Bool
+shift_leaves_signed w x t = not (fits_signed w (signed_of w x *ℤ pos (2 ^ t)))
+
 abbrev pub shift_left : Flags → ℕ → ℕ → ℕ → Done
 shift_left flags w x t = number_unless
-    (nat_le w t || flags.nuw && not (fits_unsigned w (pos (x * 2 ^ t)))
-    || flags.nsw && not (fits_signed w (signed_of w x *ℤ pos (2 ^ t))))
+    (nat_le w t || (flags.nuw && shift_leaves_unsigned w x t || flags.nsw && shift_leaves_signed w x t))
     (shifted_left w x t)
 
 abbrev pub loses_ones : ℕ → ℕ → Bool
@@ -63,7 +70,19 @@ abbrev pub divide_signed : Flags → ℕ → ℕ → ℕ → Done
 divide_signed flags w x y =
     number_unless (flags.exact && not (nat_eq (signed_remainder w x y) 0)) (signed_quotient w x y)
 
+abbrev pub remainder : ℕ → ℕ → Done
+remainder x y = number (unsigned_remainder x y)
+
+abbrev pub remainder_signed : ℕ → ℕ → ℕ → Done
+remainder_signed w x y = number (signed_remainder w x y)
+
 -- ---- `and`, `or`, `xor`: bit by bit. `disjoint` of `or` is broken where some bit is one in both
+abbrev pub bitwise_and : ℕ → ℕ → Done
+bitwise_and x y = number (bit_and x y)
+
+abbrev pub bitwise_xor : ℕ → ℕ → Done
+bitwise_xor x y = number (bit_xor x y)
+
 abbrev pub bitwise_or : Flags → ℕ → ℕ → Done
 bitwise_or flags x y = number_unless (flags.disjoint && not (nat_eq (bit_and x y) 0)) (bit_or x y)
 
@@ -82,21 +101,24 @@ compare pred samesign w x y =
 -- and `nsw` of `trunc` where the number, or its reading, is out of the range of width w
 abbrev pub convert : Cast → CastFlags → ℕ → ℕ → ℕ → Done
 convert Cast.Zext flags v w x = number_unless (flags.nneg && is_negative v x) (zero_extended x)
-convert Cast.Sext flags v w x = number_unless false (sign_extended v w x)
+convert Cast.Sext flags v w x = number (sign_extended v w x)
 convert Cast.Trunc flags v w x = number_unless
     (flags.nuw && not (fits_unsigned w (pos x)) || flags.nsw && not (fits_signed w (signed_of v x)))
     (truncated w x)
 
 -- ---- the intrinsics of two numbers
-abbrev pub two_numbers : Fun2 → ℕ → ℕ → ℕ → ℕ
-two_numbers Fun2.Umin w x y = unsigned_minimum x y
-two_numbers Fun2.Umax w x y = unsigned_maximum x y
-two_numbers Fun2.Smin w x y = signed_minimum w x y
-two_numbers Fun2.Smax w x y = signed_maximum w x y
-two_numbers Fun2.UaddSat w x y = saturated_unsigned w Arith.Add x y
-two_numbers Fun2.UsubSat w x y = saturated_unsigned w Arith.Sub x y
-two_numbers Fun2.SaddSat w x y = saturated_signed w Arith.Add x y
-two_numbers Fun2.SsubSat w x y = saturated_signed w Arith.Sub x y
+abbrev pub chosen_or_clamped : Fun2 → ℕ → ℕ → ℕ → ℕ
+chosen_or_clamped Fun2.Umin w x y = unsigned_minimum x y
+chosen_or_clamped Fun2.Umax w x y = unsigned_maximum x y
+chosen_or_clamped Fun2.Smin w x y = signed_minimum w x y
+chosen_or_clamped Fun2.Smax w x y = signed_maximum w x y
+chosen_or_clamped Fun2.UaddSat w x y = saturated_unsigned w Arith.Add x y
+chosen_or_clamped Fun2.UsubSat w x y = saturated_unsigned w Arith.Sub x y
+chosen_or_clamped Fun2.SaddSat w x y = saturated_signed w Arith.Add x y
+chosen_or_clamped Fun2.SsubSat w x y = saturated_signed w Arith.Sub x y
+
+abbrev pub two_numbers : Fun2 → ℕ → ℕ → ℕ → Done
+two_numbers fun w x y = number (chosen_or_clamped fun w x y)
 
 -- ---- the intrinsics of one number. Where the edge case is to be poison, `abs` of the least signed value is, and `ctlz`
 -- and `cttz` of 0 are
@@ -104,7 +126,7 @@ abbrev pub one_number : Fun1 → Bool → ℕ → ℕ → Done
 one_number Fun1.Abs strict w x = number_unless (strict && nat_eq x (2 ^ (w - 1))) (absolute_of w x)
 one_number Fun1.Ctlz strict w x = number_unless (strict && nat_eq x 0) (leading_zero_bits w x)
 one_number Fun1.Cttz strict w x = number_unless (strict && nat_eq x 0) (trailing_zero_bits w x)
-one_number Fun1.Ctpop strict w x = number_unless false (one_bits w x)
+one_number Fun1.Ctpop strict w x = number (one_bits w x)
 
 -- ---- the intrinsics with overflow: the wrapped result, and whether the whole result leaves the range
 abbrev pub overflow_arith : Over → Arith
@@ -115,13 +137,17 @@ overflow_arith Over.Ssub = Arith.Sub
 overflow_arith Over.Umul = Arith.Mul
 overflow_arith Over.Smul = Arith.Mul
 
+abbrev pub has_signed_range : Over → Bool
+has_signed_range Over.Uadd = false
+has_signed_range Over.Sadd = true
+has_signed_range Over.Usub = false
+has_signed_range Over.Ssub = true
+has_signed_range Over.Umul = false
+has_signed_range Over.Smul = true
+
 abbrev pub overflows : Over → ℕ → ℕ → ℕ → Bool
-overflows Over.Uadd w x y = leaves_unsigned w Arith.Add x y
-overflows Over.Sadd w x y = leaves_signed w Arith.Add x y
-overflows Over.Usub w x y = leaves_unsigned w Arith.Sub x y
-overflows Over.Ssub w x y = leaves_signed w Arith.Sub x y
-overflows Over.Umul w x y = leaves_unsigned w Arith.Mul x y
-overflows Over.Smul w x y = leaves_signed w Arith.Mul x y
+overflows over w x y =
+    if has_signed_range over then leaves_signed w (overflow_arith over) x y else leaves_unsigned w (overflow_arith over) x y
 
 abbrev pub with_overflow : Over → ℕ → ℕ → ℕ → Done
 with_overflow over w x y =

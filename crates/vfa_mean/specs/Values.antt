@@ -12,6 +12,14 @@ IsValueOf (Ty.Int _) (Val.Pair _ _) = ⊥
 IsValueOf (Ty.Pair _) (Val.Number _) = ⊥
 IsValueOf (Ty.Pair w) (Val.Pair x _) = x < 2 ^ w
 
+-- poison or a number of the width
+abbrev pub IsInt : ℕ → Val → Type 0
+IsInt w v = IsValueOf (Ty.Int w) v
+
+pub record AreOfWidth (w : ℕ) (a b : Val) : Type 0 where
+  pub first : IsInt w a
+  pub second : IsInt w b
+
 -- The first value allows the second in its place: poison allows every value, and any other value itself alone.
 abbrev pub AllowsValue : Val → Val → Type 0
 AllowsValue Val.Poison _ = ⊤

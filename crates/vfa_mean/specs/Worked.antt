@@ -6,12 +6,10 @@
 --       %y = call i8 @g(i8 %x)               unreachable
 --       ret i8 %y                          }
 --     }
-use Rattle.std.specs.Prelude.{ℕ, List, [], ◌∷◌, Option, Some, None, codes}
+use Rattle.std.specs.Prelude.{ℕ, List, [], ◌∷◌, Some, None, codes}
 use Rattle.vfa_ir.specs.declared.operations.Op.{Op}
 use Rattle.vfa_ir.specs.declared.operations.Operand.{Operand}
 use Rattle.vfa_ir.specs.declared.operations.Ty.{Ty}
-use Rattle.vfa_ir.specs.declared.operations.ValueId.{ValueId}
-use Rattle.vfa_ir.specs.declared.functions.Block.{Block}
 use Rattle.vfa_ir.specs.declared.functions.CallArg.{CallArg}
 use Rattle.vfa_ir.specs.declared.functions.CallOp.{CallOp}
 use Rattle.vfa_ir.specs.declared.functions.Function.{Function}
@@ -31,15 +29,15 @@ byte_value = record { name = None; ty = Ty.Int 8 }
 -- a function of i8 without parameters, of one block
 abbrev pub of_one_block : List ℕ → List Value → List Inst → Term → List CallOp → Function
 of_one_block name values insts term calls = record {
-    name = name;
-    lead = [];
-    width = 8;
-    params = [];
-    tail = [];
-    values = values;
-    blocks = record { name = None; phis = []; insts = insts; term = term } ∷ [];
-    calls = calls;
-  }
+  name = name;
+  lead = [];
+  width = 8;
+  params = [];
+  tail = [];
+  values = values;
+  blocks = record { name = None; phis = []; insts = insts; term = term } ∷ [];
+  calls = calls;
+}
 
 -- `%v = call i8` of the call at this place
 abbrev pub call_into : ℕ → ℕ → Inst

@@ -1,6 +1,21 @@
 //! What functions mean: values, what operations give, and the outcomes of functions (LLVM Language Reference).
 #![tactic(auto)]
 
+mod arithmetic;
+mod bits;
+mod choice;
+mod compare;
+mod convert;
+mod division;
+mod laws;
+mod operation;
+mod shift;
 mod value;
+mod words;
 
+pub use laws::{
+    calls_are_seen_in_order, functions_have_outcomes, operations_keep_order_and_types,
+    refinement_is_a_preorder,
+};
+pub use operation::eval;
 pub use value::{Done, Val};

@@ -1,0 +1,7 @@
+pub mod Clamping
+pub mod Counts
+pub mod Monotony
+pub mod Refining
+pub mod Results
+pub mod SomeOutcome
+pub mod Typing
