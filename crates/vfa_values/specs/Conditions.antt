@@ -1,7 +1,6 @@
 -- What the calls of a domain ask of their arguments.
 use Rattle.std.specs.Prelude.{◌≡◌, ◌<◌, ℕ, ◌-◌, ◌^◌, List, All, Contains, ⊤}
 use Rattle.std.specs.List.Sorted.{IsNonDecreasing}
-use Rattle.vfa_ir.specs.declared.operations.Op.{Op}
 use Rattle.vfa_ir.specs.declared.operations.Ty.{Ty}
 use Rattle.vfa_word.specs.Numbers.{IsWidth}
 
@@ -29,25 +28,6 @@ pub record AreAlike {V : Type 0} (ty : V → Ty) (proper : V → Type 0) (a b : 
   pub first : proper a
   pub second : proper b
   pub same_type : ty a ≡ ty b
-
--- What an operation asks of its operands a, b and c: A, B and C of the types that it writes there, as far as it uses them.
-abbrev pub EachOperand : Op → (Ty → Type 0) → (Ty → Type 0) → (Ty → Type 0) → Type 0
-EachOperand (Op.Bin _ _ w _ _) A B C = A (Ty.Int w) × B (Ty.Int w)
-EachOperand (Op.Icmp _ _ w _ _) A B C = A (Ty.Int w) × B (Ty.Int w)
-EachOperand (Op.Select w _ _ _) A B C = A (Ty.Int w) × B (Ty.Int w) × C (Ty.Int 1)
-EachOperand (Op.Cast _ _ from _ _) A B C = A (Ty.Int from)
-EachOperand (Op.Freeze w _) A B C = A (Ty.Int w)
-EachOperand (Op.Two _ w _ _) A B C = A (Ty.Int w) × B (Ty.Int w)
-EachOperand (Op.One _ w _ _) A B C = A (Ty.Int w)
-EachOperand (Op.Over _ w _ _) A B C = A (Ty.Int w) × B (Ty.Int w)
-EachOperand (Op.Part w _ _) A B C = C (Ty.Pair w)
-EachOperand (Op.Assume _) A B C = C (Ty.Int 1)
-EachOperand (Op.Call _ _) A B C = ⊤
-
--- the values of the domain that the operation uses are proper and of the types that it writes
-abbrev pub AreOperandFacts : {V : Type 0} → (V → Ty) → (V → Type 0) → Op → V → V → V → Type 0
-AreOperandFacts ty proper op a b c =
-    EachOperand op (λ t. IsOf ty proper t a) (λ t. IsOf ty proper t b) (λ t. IsOf ty proper t c)
 
 -- landmarks of width w: numbers of the width in ascending order, and among them the ends of both readings
 pub record AreLandmarks (w : ℕ) (marks : List ℕ) : Type 0 where

@@ -2,6 +2,10 @@
 //! answer and by their laws. States, tables and whatever works on them know a domain by this trait alone.
 #![tactic(auto)]
 
+mod constant;
+#[cfg(test)]
+mod tests;
 mod values;
 
+pub use constant::Constant;
 pub use values::Values;

@@ -1,10 +1,13 @@
+//! The trait of lawful domains of values.
+
 ghost use Rattle.std.specs.Prelude.{◌≡◌, ◌<◌, ◌≤◌, ◌^◌, ◌↔◌, IsTrue};
 ghost use Rattle.vfa_ir.specs.declared.operations.Ty.{Ty};
 ghost use Rattle.vfa_mean.specs.declared.value.Val.{Val};
 ghost use Rattle.vfa_mean.specs.Operands.{IsOperation};
 ghost use Rattle.vfa_values.specs.Answers.{Answers};
-ghost use Rattle.vfa_values.specs.Conditions.{width_of, IsType, IsInteger, AreAlike, AreOperandFacts, AreLandmarks};
+ghost use Rattle.vfa_values.specs.Conditions.{width_of, IsType, IsInteger, AreAlike, AreLandmarks};
 ghost use Rattle.vfa_values.specs.Laws.{IsLawful};
+ghost use Rattle.vfa_values.specs.Operands.{AreOperandFacts};
 ghost use Rattle.vfa_word.specs.Numbers.{IsWidth};
 
 use vfa_ir::{Op, Pred, Ty};
