@@ -1,0 +1,6 @@
+pub mod Answers
+pub mod Conditions
+pub mod ConstantLaws
+pub mod Constants
+pub mod Laws
+pub mod Operands
