@@ -17,7 +17,7 @@ use Rattle.vfa_mean.specs.Values.{Env}
 use Rattle.vfa_mean.specs.Meaning.{Gave, Gives, Allowed, done}
 use Rattle.vfa_mean.specs.Moments.{Place, Into, At, Moment, starts, reads, does, calls, leaves, IsLine, is_call}
 use Rattle.vfa_mean.specs.Outcomes.{with_result, after_phis}
-use Rattle.vfa_mean.specs.FreshOperands.{DefinesOnce, IsDefinedTo, IsOperationAt, HaveSameOperands, WasGiven, HasFreshOperands, HasPresentResults}
+use Rattle.vfa_mean.specs.FreshOperands.{DefinesOnce, IsDefinedAtPlace, IsOperationAt, HaveSameOperands, WasGiven, HasFreshOperands, HasPresentResults}
 use Rattle.vfa_mean.proofs.FreshOperands.Definitions.{or_cases, or_left, or_right, results_to_end, IsDefinition, phi_definition, line_definition}
 use Rattle.vfa_mean.proofs.FreshOperands.Places.{IsOnWalk, entered, moment_on_walk, result_keeps, phis_keep}
 use Rattle.vfa_mean.proofs.FreshOperands.Walking.{use_is_defined, same_operands, no_walk}
@@ -54,7 +54,7 @@ module _ (f : Function) (once : DefinesOnce f) (defined : Defined f) (b i : ℕ)
   -- ---- phis
 
   -- before the phis of a block the result was defined, since it is none of them
-  live_before_phis : (p : Option ℕ) (c : ℕ) → IsOnWalk f (Into p c) → IsDefinedAt f c 0 v.0 → IsDefinedTo f (Into p c) v.0
+  live_before_phis : (p : Option ℕ) (c : ℕ) → IsOnWalk f (Into p c) → IsDefinedAt f c 0 v.0 → IsDefinedAtPlace f (Into p c) v.0
   live_before_phis None c first live = elim (or_cases (is_parameter f v.0 || false) (is_in v.0 (results_before f c 0)) (live [] first)) [
     | inl h ↦ elim (or_cases (is_parameter f v.0) false h) [ inl p ↦ p | inr t ↦ absurd (cc) ]
     | inr t ↦ let l = (definition.only c 0 t).1 in absurd (omega (arith, l))
@@ -144,7 +144,7 @@ module _ (f : Function) (once : DefinesOnce f) (defined : Defined f) (b i : ℕ)
         same = λ x used. sym (operands_stay c j block other env w r line live x used);
       }
 
-  last_given : (place : Place) (env : Env) → Moment f place env → IsDefinedTo f place v.0 → LastGiven f b i inst v env
+  last_given : (place : Place) (env : Env) → Moment f place env → IsDefinedAtPlace f place v.0 → LastGiven f b i inst v env
   last_given place env (starts args fit kept) live = absurd (definition.result live)
   last_given place env (reads p c block old m there) live =
       let on = moment_on_walk f (Into p c) old m in

@@ -30,10 +30,10 @@ DefinesOnce f = IsDistinct nat_eq (ids_of f)
 
 -- The name is defined on every walk to the place. Before the phis of a block these are the walks to the end of the block
 -- that it is entered from, and where the function begins parameters alone are defined.
-abbrev pub IsDefinedTo : Function → Place → ℕ → Type 0
-IsDefinedTo f (Into None b) v = IsTrue (is_parameter f v)
-IsDefinedTo f (Into (Some p) b) v = IsDefinedAt f p (line_count f p) v
-IsDefinedTo f (At b i) v = IsDefinedAt f b i v
+abbrev pub IsDefinedAtPlace : Function → Place → ℕ → Type 0
+IsDefinedAtPlace f (Into None b) v = IsTrue (is_parameter f v)
+IsDefinedAtPlace f (Into (Some p) b) v = IsDefinedAt f p (line_count f p) v
+IsDefinedAtPlace f (At b i) v = IsDefinedAt f b i v
 
 -- the instruction at this place is an operation and no call, and has this result
 pub record IsOperationAt (f : Function) (b i : ℕ) (inst : Inst) (v : ValueId) : Type 0 where
@@ -59,9 +59,9 @@ pub record WasGiven (f : Function) (b i : ℕ) (inst : Inst) (v : ValueId) (env 
 -- so it is of each operation, at each moment where its result is defined on every walk
 abbrev pub HasFreshOperands : Function → Type 0
 HasFreshOperands f = (b i : ℕ) (inst : Inst) (v : ValueId) (place : Place) (env : Env) →
-    IsOperationAt f b i inst v → IsDefinedTo f place v.0 → Moment f place env → WasGiven f b i inst v env
+    IsOperationAt f b i inst v → IsDefinedAtPlace f place v.0 → Moment f place env → WasGiven f b i inst v env
 
 -- then its value is one that the operation gives of the values that its operands have now
 abbrev pub HasPresentResults : Function → Type 0
 HasPresentResults f = (b i : ℕ) (inst : Inst) (v : ValueId) (place : Place) (env : Env) →
-    IsOperationAt f b i inst v → IsDefinedTo f place v.0 → Moment f place env → Gives inst.op env (Gave (env v.0))
+    IsOperationAt f b i inst v → IsDefinedAtPlace f place v.0 → Moment f place env → Gives inst.op env (Gave (env v.0))

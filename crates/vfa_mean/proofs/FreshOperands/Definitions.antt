@@ -1,9 +1,9 @@
 -- Where a name is defined, in a function that defines each name once.
-use Rattle.std.proofs.Common.{◌≡◌, ℕ, zero, suc, ◌≤◌, Bool, true, false, ◌||◌, nat_eq, List, [], ◌∷◌, ◌++◌, map, flat_map, filter_map, take, length, Option, Some, None, refl, sym, ap, ◌∙◌, subst, inl, inr, ◌⊎◌, arith, take_all, le_refl}
+use Rattle.std.proofs.Common.{◌≡◌, ℕ, zero, suc, ◌+◌, ◌<◌, ◌≤◌, Bool, true, false, ◌||◌, nat_eq, List, [], ◌∷◌, ◌++◌, map, flat_map, filter_map, take, length, Option, Some, None, refl, sym, ap, ◌∙◌, subst, inl, inr, ◌⊎◌, arith, take_all, le_refl, ne_eqb}
 use Rattle.std.proofs.lemmas.Bool.{eqb-true, eq-eqb}
 use Rattle.std.proofs.lemmas.List.Folds.{list_any-append}
 use Rattle.std.proofs.lemmas.Option.{same_Some}
-use Rattle.std.specs.List.{AllByRecursion, IsDistinct, cons_option, slice_get}
+use Rattle.std.specs.List.{AllByRecursion, IsDistinct, cons_option, range_with_len, slice_get}
 use Rattle.vfa_ir.specs.declared.operations.ValueId.{ValueId}
 use Rattle.vfa_ir.specs.declared.functions.Block.{Block}
 use Rattle.vfa_ir.specs.declared.functions.Function.{Function}
@@ -99,6 +99,15 @@ option_apart : {X : Type 0} (o : Option ℕ) (x : ℕ) (xs : List ℕ) → IsDis
 unfolding IsDistinct
 option_apart None x xs d e h = absurd (cc)
 option_apart (Some y) x xs d e h = not_in y xs d.0 (subst (λ z. is_in z xs ≡ true) (sym (same_Some y x e)) h)
+
+apart_from_range : (x a n : ℕ) → x < a → AllByRecursion (λ y. nat_eq x y ≡ false) (range_with_len a n)
+apart_from_range x a zero l = tt
+apart_from_range x a (suc n) l = (ne_eqb x a (λ e. omega (arith, l, e)), apart_from_range x (a + 1) n (omega (arith, l)))
+
+pub range_distinct : (a n : ℕ) → IsDistinct nat_eq (range_with_len a n)
+unfolding IsDistinct
+range_distinct a zero = tt
+range_distinct a (suc n) = (apart_from_range a (a + 1) n (omega arith), range_distinct (a + 1) n)
 
 -- Results of instructions
 
