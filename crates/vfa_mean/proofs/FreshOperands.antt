@@ -17,7 +17,7 @@ use Rattle.vfa_mean.specs.Values.{Env}
 use Rattle.vfa_mean.specs.Meaning.{Gave, Gives, Allowed, done}
 use Rattle.vfa_mean.specs.Moments.{Place, Into, At, Moment, starts, reads, does, calls, leaves, IsLine, is_call}
 use Rattle.vfa_mean.specs.Outcomes.{with_result, after_phis}
-use Rattle.vfa_mean.specs.FreshOperands.{DefinesOnce, IsDefinedAtPlace, IsOperationAt, HaveSameOperands, WasGiven, HasFreshOperands, HasPresentResults}
+use Rattle.vfa_mean.specs.FreshOperands.{DefinesOnce, IsDefinedAtPlace, IsResultAt, HaveSameOperands, WasGiven, HasFreshOperands, HasPresentResults}
 use Rattle.vfa_mean.proofs.FreshOperands.Definitions.{or_cases, or_left, or_right, results_to_end, IsDefinition, phi_definition, line_definition}
 use Rattle.vfa_mean.proofs.FreshOperands.Places.{IsOnWalk, entered, moment_on_walk, result_keeps, phis_keep}
 use Rattle.vfa_mean.proofs.FreshOperands.Walking.{use_is_defined, same_operands, no_walk}
@@ -32,7 +32,7 @@ record LastGiven (f : Function) (b i : ℕ) (inst : Inst) (v : ValueId) (env : E
   gave : Gives inst.op before (Gave (env v.0))
   same : (x : ℕ) → is_in x (op_names f inst.op) ≡ true → before x ≡ env x
 
-module _ (f : Function) (once : DefinesOnce f) (defined : Defined f) (b i : ℕ) (inst : Inst) (v : ValueId) (own : IsOperationAt f b i inst v) where
+module _ (f : Function) (once : DefinesOnce f) (defined : Defined f) (b i : ℕ) (inst : Inst) (v : ValueId) (own : IsResultAt f b i inst v) where
   definition : IsDefinition f v.0 b (suc i)
   definition = line_definition f b own.block i inst v once own.line own.result
 
@@ -77,7 +77,7 @@ module _ (f : Function) (once : DefinesOnce f) (defined : Defined f) (b i : ℕ)
       IsDefinedAt f c 0 v.0 → LastGiven f b i inst v env → LastGiven f b i inst v (after_phis p block.phis env env)
   after_reading p c block env on there live g = kept env (after_phis p block.phis env env) g
       (phis_keep p block.phis env env v.0 (λ t.
-        let l = (definition.only c 0 ((phi_definition f c block v.0 once there t).after 0 (omega arith))).1 in omega (arith, l)))
+      let l = (definition.only c 0 ((phi_definition f c block v.0 once there t).after 0 (omega arith))).1 in omega (arith, l)))
       (λ x used. phis_keep p block.phis env env x (λ t. not_live c 0 x (entered f p c on) (phi_definition f c block x once there t) used live))
 
   -- ---- other instructions
@@ -119,10 +119,10 @@ module _ (f : Function) (once : DefinesOnce f) (defined : Defined f) (b i : ℕ)
       elsewhere : (c ≡ b → j ≡ i → ⊥) → LastGiven f b i inst v (with_result env other.result w)
       elsewhere apart = kept env (with_result env other.result w) (before (live_before_line c j apart live))
           (result_keeps env other.result w v.0 (λ name is same.
-            let there = line_definition f c block j other name once line is in
-            let place = there.only b (suc i) (subst (λ y. is_in y (results_before f b (suc i)) ≡ true) same (definition.after (suc i) (omega arith))) in
-            let back = definition.only c (suc j) (subst (λ y. is_in y (results_before f c (suc j)) ≡ true) (sym same) (there.after (suc j) (omega arith))) in
-            apart back.0 (let l = place.1 in let k = back.1 in omega (arith, l, k))))
+          let there = line_definition f c block j other name once line is in
+          let place = there.only b (suc i) (subst (λ y. is_in y (results_before f b (suc i)) ≡ true) same (definition.after (suc i) (omega arith))) in
+          let back = definition.only c (suc j) (subst (λ y. is_in y (results_before f c (suc j)) ≡ true) (sym same) (there.after (suc j) (omega arith))) in
+          apart back.0 (let l = place.1 in let k = back.1 in omega (arith, l, k))))
           (operands_stay c j block other env w r line live)
 
   value_given : (env : Env) (other : Inst) (w : Val) → other ≡ inst → with_result env other.result w v.0 ≡ w
@@ -156,10 +156,10 @@ module _ (f : Function) (once : DefinesOnce f) (defined : Defined f) (b i : ℕ)
       let r = moment_on_walk f (At c j) old m in
       after_line c j block other old w r line
       (λ e d.
-        let same = same_line c j block other line e d in
-        let no = own.operation in
-        let yes : is_call other.op ≡ true = ap is_call is in
-        absurd (cc))
+      let same = same_line c j block other line e d in
+      let no = own.operation in
+      let yes : is_call other.op ≡ true = ap is_call is in
+      absurd (cc))
       (last_given (At c j) old m) live
   last_given place env (leaves c block old k target m there exit) live =
       let count : line_count f c ≡ length block.insts = ap (λ o. elim o [ None ↦ 0 | Some block ↦ length block.insts ]) there in

@@ -10,7 +10,7 @@
 -- %n is defined on every walk to the branch, to the entry of head from head, and to exit. At each moment there, of whatever
 -- turn, %n is %i + 1 for the value that %i has now. Just after the phi %i is new and %n of the turn before, but there %n is
 -- not defined on the walk from entry.
-use Rattle.std.specs.Prelude.{◌≡◌, ℕ, false, Option, Some, None, IsTrue, nat_eq}
+use Rattle.std.specs.Prelude.{◌≡◌, ℕ, false, Some, None, IsTrue, nat_eq}
 use Rattle.std.specs.List.{IsDistinct}
 use Rattle.vfa_ir.specs.declared.operations.Op.{Op}
 use Rattle.vfa_ir.specs.declared.operations.ValueId.{ValueId}
@@ -35,8 +35,8 @@ IsDefinedAtPlace f (Into None b) v = IsTrue (is_parameter f v)
 IsDefinedAtPlace f (Into (Some p) b) v = IsDefinedAt f p (line_count f p) v
 IsDefinedAtPlace f (At b i) v = IsDefinedAt f b i v
 
--- the instruction at this place is an operation and no call, and has this result
-pub record IsOperationAt (f : Function) (b i : ℕ) (inst : Inst) (v : ValueId) : Type 0 where
+-- the name is the result of the instruction at this place, which is an operation and no call
+pub record IsResultAt (f : Function) (b i : ℕ) (inst : Inst) (v : ValueId) : Type 0 where
   pub block : Block
   pub line : IsLine f b block i inst
   pub result : inst.result ≡ Some v
@@ -59,9 +59,9 @@ pub record WasGiven (f : Function) (b i : ℕ) (inst : Inst) (v : ValueId) (env 
 -- so it is of each operation, at each moment where its result is defined on every walk
 abbrev pub HasFreshOperands : Function → Type 0
 HasFreshOperands f = (b i : ℕ) (inst : Inst) (v : ValueId) (place : Place) (env : Env) →
-    IsOperationAt f b i inst v → IsDefinedAtPlace f place v.0 → Moment f place env → WasGiven f b i inst v env
+    IsResultAt f b i inst v → IsDefinedAtPlace f place v.0 → Moment f place env → WasGiven f b i inst v env
 
 -- then its value is one that the operation gives of the values that its operands have now
 abbrev pub HasPresentResults : Function → Type 0
 HasPresentResults f = (b i : ℕ) (inst : Inst) (v : ValueId) (place : Place) (env : Env) →
-    IsOperationAt f b i inst v → IsDefinedAtPlace f place v.0 → Moment f place env → Gives inst.op env (Gave (env v.0))
+    IsResultAt f b i inst v → IsDefinedAtPlace f place v.0 → Moment f place env → Gives inst.op env (Gave (env v.0))

@@ -1,5 +1,5 @@
 -- Where a name is defined, in a function that defines each name once.
-use Rattle.std.proofs.Common.{◌≡◌, ℕ, zero, suc, ◌+◌, ◌<◌, ◌≤◌, Bool, true, false, ◌||◌, nat_eq, List, [], ◌∷◌, ◌++◌, map, flat_map, filter_map, take, length, Option, Some, None, refl, sym, ap, ◌∙◌, subst, inl, inr, ◌⊎◌, arith, take_all, le_refl, ne_eqb}
+use Rattle.std.proofs.Common.{◌≡◌, ℕ, zero, suc, ◌+◌, ◌<◌, ◌≤◌, Bool, true, false, ◌||◌, nat_eq, List, [], ◌∷◌, ◌++◌, map, flat_map, take, length, Option, Some, None, refl, sym, ap, ◌∙◌, subst, inl, inr, ◌⊎◌, arith, take_all, le_refl, ne_eqb}
 use Rattle.std.proofs.lemmas.Bool.{eqb-true, eq-eqb}
 use Rattle.std.proofs.lemmas.List.Folds.{list_any-append}
 use Rattle.std.proofs.lemmas.Option.{same_Some}
@@ -10,7 +10,7 @@ use Rattle.vfa_ir.specs.declared.functions.Function.{Function}
 use Rattle.vfa_ir.specs.declared.functions.Inst.{Inst}
 use Rattle.vfa_ir.specs.declared.functions.Phi.{Phi}
 use Rattle.vfa_ir.specs.Defined.{line_count}
-use Rattle.vfa_ir.specs.Printable.{ids_of, inst_ids, block_ids}
+use Rattle.vfa_ir.specs.Printable.{inst_ids, block_ids}
 use Rattle.vfa_ir.specs.Walks.{is_in, is_parameter, results_in, results_before}
 use Rattle.vfa_mean.specs.FreshOperands.{DefinesOnce}
 use Rattle.vfa_mean.specs.Moments.{IsLine}
@@ -114,7 +114,7 @@ range_distinct a (suc n) = (apart_from_range a (a + 1) n (omega arith), range_di
 abbrev result_id : Option ValueId → Option ℕ
 result_id r = elim r [ None ↦ None | Some v ↦ Some v.0 ]
 
-pub in_lines : (insts : List Inst) (j k : ℕ) (inst : Inst) (v : ValueId) → slice_get insts j ≡ Some inst → inst.result ≡ Some v →
+in_lines : (insts : List Inst) (j k : ℕ) (inst : Inst) (v : ValueId) → slice_get insts j ≡ Some inst → inst.result ≡ Some v →
     suc j ≤ k → is_in v.0 (inst_ids (take k insts)) ≡ true
 in_lines [] j k inst v h r l = absurd (cc)
 in_lines (i ∷ insts) j zero inst v h r l = absurd (omega arith)
@@ -180,7 +180,7 @@ phi_ids block = map (λ (p : Phi). p.result.0) block.phis
 abbrev before_in : ℕ → Option Block → List ℕ
 before_in n o = elim o [ None ↦ [] | Some block ↦ phi_ids block ++ inst_ids (take n block.insts) ]
 
-pub results_at : (f : Function) (b n : ℕ) (block : Block) → slice_get f.blocks b ≡ Some block →
+results_at : (f : Function) (b n : ℕ) (block : Block) → slice_get f.blocks b ≡ Some block →
     results_before f b n ≡ phi_ids block ++ inst_ids (take n block.insts)
 results_at f b n block h = ap (before_in n) h
 
@@ -253,12 +253,14 @@ line_definition f b block j inst v once line r =
       only = λ c k t.
           let other = in_some_block f c k v.0 t in
           let place = same_block f.blocks c b other.block block v.0 (results_distinct f once) other.there line.there
-              (in_whole_block other.block k v.0 other.stands) here in
+          (in_whole_block other.block k v.0 other.stands) here in
           let same : other.block ≡ block = let e = other.there in let h = line.there in cc in
-          let stands = subst (λ z. is_in v.0 (phi_ids z ++ inst_ids (take k z.insts)) ≡ true) same other.stands in
-          (place, elim (in_cases v.0 (phi_ids block) (inst_ids (take k block.insts)) stands) [
-            | inl p ↦ apart v.0 (phi_ids block) (inst_ids block.insts) own p result
-            | inr u ↦ is_before block.insts j k inst v (distinct_right (phi_ids block) (inst_ids block.insts) own) line.stands r u
-          ]);
+          let stands = subst (λ z. is_in v.0 (phi_ids z ++ inst_ids (take k z.insts)) ≡ true) same other.stands in (
+            place,
+            elim (in_cases v.0 (phi_ids block) (inst_ids (take k block.insts)) stands) [
+              | inl p ↦ apart v.0 (phi_ids block) (inst_ids block.insts) own p result
+              | inr u ↦ is_before block.insts j k inst v (distinct_right (phi_ids block) (inst_ids block.insts) own) line.stands r u
+            ],
+          );
       result = no_parameter f b block v.0 once line.there here;
     }

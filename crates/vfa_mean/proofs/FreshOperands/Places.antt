@@ -1,13 +1,12 @@
 -- The places of moments lie on walks, and what a step leaves as it was.
-use Rattle.std.proofs.Common.{◌≡◌, ℕ, suc, Bool, true, false, nat_eq, if◌then◌else◌, List, [], ◌∷◌, map, length, Option, Some, None, slice_get, refl, sym, ap, ◌∙◌, subst, inl, inr, ◌⊎◌, ne_eqb}
+use Rattle.std.proofs.Common.{◌≡◌, ℕ, suc, Bool, true, false, nat_eq, if◌then◌else◌, List, [], ◌∷◌, map, length, Option, Some, None, refl, sym, ap, ◌∙◌, inl, inr, ne_eqb}
 use Rattle.vfa_ir.specs.declared.operations.BlockId.{BlockId}
 use Rattle.vfa_ir.specs.declared.operations.ValueId.{ValueId}
-use Rattle.vfa_ir.specs.declared.functions.Block.{Block}
 use Rattle.vfa_ir.specs.declared.functions.Function.{Function}
 use Rattle.vfa_ir.specs.declared.functions.Phi.{Phi}
 use Rattle.vfa_ir.specs.declared.functions.Term.{Term}
 use Rattle.vfa_ir.specs.PhisFit.{targets}
-use Rattle.vfa_ir.specs.Walks.{IsEdge, IsReached, is_in, successors}
+use Rattle.vfa_ir.specs.Walks.{IsEdge, IsReached, is_in}
 use Rattle.vfa_mean.specs.declared.value.Val.{Val}
 use Rattle.vfa_mean.specs.Values.{Env, operand_value}
 use Rattle.vfa_mean.specs.Moments.{Place, Into, At, Moment, starts, reads, does, calls, leaves}
@@ -96,9 +95,10 @@ moment_on_walk f place env (starts args fit kept) = refl
 moment_on_walk f place env (reads p b block old m there) = entered f p b (moment_on_walk f (Into p b) old m)
 moment_on_walk f place env (does b block i inst old v m line operation gives) = moment_on_walk f (At b i) old m
 moment_on_walk f place env (calls b block i inst old v width at call answer m line is of) = moment_on_walk f (At b i) old m
-moment_on_walk f place env (leaves b block old k target m there exit) =
-    (ap (λ o. is_in target (elim o [ None ↦ [] | Some block ↦ map (λ t. t.0) (targets block.term) ])) there ∙ exit_target block.term old k target exit,
-      moment_on_walk f (At b (length block.insts)) old m)
+moment_on_walk f place env (leaves b block old k target m there exit) = (
+  ap (λ o. is_in target (elim o [ None ↦ [] | Some block ↦ map (λ t. t.0) (targets block.term) ])) there ∙ exit_target block.term old k target exit,
+  moment_on_walk f (At b (length block.insts)) old m,
+)
 
 -- ---- what a step leaves as it was
 
