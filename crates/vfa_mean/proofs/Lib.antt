@@ -1,5 +1,6 @@
 pub mod Clamping
 pub mod Counts
+pub mod FreshOperands
 pub mod Monotony
 pub mod Refining
 pub mod Results

@@ -1,3 +1,4 @@
+pub mod FreshOperands
 pub mod Laws
 pub mod Meaning
 pub mod Moments

@@ -8,12 +8,14 @@ mod clamp;
 mod compare;
 mod convert;
 mod division;
+mod fresh;
 mod laws;
 mod numbers;
 mod operation;
 mod shift;
 mod value;
 
+pub use fresh::operands_are_fresh;
 pub use laws::{
     calls_are_seen_in_order, functions_have_outcomes, operations_keep_order_and_types,
     refinement_is_a_preorder,
