@@ -274,3 +274,6 @@ pub(crate) fn saturated<const W: u32>(
 {
     clamped(reading, places(op, reading, a, b))
 }
+
+#[cfg(test)]
+mod tests;

@@ -2,7 +2,7 @@ ghost use Rattle.vfa_word.specs.Numbers.{IsWidth};
 
 use super::*;
 use vfa_dom::{Domain, SetOf};
-use vfa_word::Word;
+use vfa_word::{Word, most};
 
 /// The arc between two numbers, cut to the width.
 fn arc<const W: u32>(first: u128, last: u128) -> Wrapped<W>
@@ -11,8 +11,53 @@ fn arc<const W: u32>(first: u128, last: u128) -> Wrapped<W>
     Wrapped::new(Word::cut(first), Word::cut(last))
 }
 
-fn shown<const W: u32>(arc: &Wrapped<W>) -> (u128, u128) {
+/// The first and last number of an arc.
+pub(crate) fn shown<const W: u32>(arc: &Wrapped<W>) -> (u128, u128) {
     (arc.first().bits(), arc.last().bits())
+}
+
+/// Whole numbers from a least one up to a greatest one.
+#[derive(Clone, Copy)]
+pub(crate) struct Extent {
+    pub least: i128,
+    pub most: i128,
+}
+
+/// The number in the reading.
+pub(crate) fn read<const W: u32>(reading: Reading, x: u128) -> i128
+    requires { IsWidth W }
+{
+    match reading {
+        Reading::Unsigned => x.cast_signed(),
+        Reading::Signed => Word::<W>::cut(x).signed(),
+    }
+}
+
+/// The numbers that the reading may give.
+pub(crate) fn range<const W: u32>(reading: Reading) -> Extent
+    requires { IsWidth W }
+{
+    match reading {
+        Reading::Unsigned => Extent {
+            least: 0,
+            most: most::<W>().cast_signed(),
+        },
+        Reading::Signed => Extent {
+            least: (most::<W>() >> 1)
+                .cast_signed()
+                .wrapping_neg()
+                .wrapping_sub(1),
+            most: (most::<W>() >> 1).cast_signed(),
+        },
+    }
+}
+
+/// Whether the number lies between the ends in both readings.
+pub(crate) fn lies<const W: u32>(e: &Ends<W>, x: u128) -> bool
+    requires { IsWidth W }
+{
+    let signed = read::<W>(Reading::Signed, x);
+    e.lo <= x && x <= e.hi && e.slo <= signed && signed <= e.shi
 }
 
 const TOP: u128 = u128::MAX;

@@ -1,10 +1,14 @@
 ghost use Rattle.vfa_word.specs.Numbers.{IsWidth};
 ghost use Rattle.vfa_wrap.specs.Between.{AreEnds};
 ghost use Rattle.vfa_wrap.specs.Ends.{shown_ends};
+ghost use Rattle.vfa_wrap.specs.Rows.{AreSecondEnds};
 
 use super::*;
+use crate::reading::Reading;
+use crate::tests::{Extent, lies, range, read};
+use std::process::Abort;
 use std::test::Fail;
-use vfa_word::Word;
+use vfa_word::{Word, most};
 
 /// The ends of the arc from `first` up to `last`.
 fn ends<const W: u32>(first: u128, last: u128) -> Ends<W>
@@ -112,4 +116,105 @@ fn no_divisor(rt: HostRuntime) {
         shown(Wrapped::by_ends(EndsOp::Srem, &ends(1, 2), &zero)),
         None
     );
+}
+
+/// The reading in which the results of the operation stand in the order of its arc.
+fn order_of(op: EndsOp) -> Reading {
+    match op {
+        EndsOp::Smin | EndsOp::Smax | EndsOp::SaddSat | EndsOp::SsubSat => Reading::Signed,
+        _ => Reading::Unsigned,
+    }
+}
+
+/// The result of a minimum, maximum or saturating operation, as the reading of a number.
+fn result<const W: u32>(op: EndsOp, x: u128, y: u128) -> i128
+    requires { IsWidth W }
+{
+    let reading = order_of(op);
+    let (left, right) = (read::<W>(reading, x), read::<W>(reading, y));
+    let whole = match op {
+        EndsOp::Umin | EndsOp::Smin => left.min(right),
+        EndsOp::Umax | EndsOp::Smax => left.max(right),
+        EndsOp::UaddSat | EndsOp::SaddSat => left.wrapping_add(right),
+        _ => left.wrapping_sub(right),
+    };
+    let range = range::<W>(reading);
+    whole.max(range.least).min(range.most)
+}
+
+/// The least and greatest result of a number and the numbers between the ends, and of those seen before.
+fn seen_with<const W: u32>(
+    op: EndsOp,
+    x: u128,
+    b: &Ends<W>,
+    before: Option<Extent>,
+) -> Option<Extent>
+    requires { IsWidth W }
+{
+    let mut seen = before;
+    'rights: for y in 0..=most::<W>() {
+        if !lies(b, y) {
+            continue;
+        }
+        let z = result::<W>(op, x, y);
+        let extent = seen.unwrap_or(Extent { least: z, most: z });
+        seen = Some(Extent {
+            least: extent.least.min(z),
+            most: extent.most.max(z),
+        });
+    }
+    seen
+}
+
+/// Compares the arc with the least and the greatest result of all pairs of numbers between the ends.
+fn compare<const W: u32>(rt: &impl Abort, op: EndsOp, a: &Ends<W>, b: &Ends<W>)
+    requires width { IsWidth W }
+    requires left { AreEnds W (shown_ends a.now) }
+    requires right { AreSecondEnds op W (shown_ends b.now) }
+{
+    let mut seen = None;
+    'lefts: for x in 0..=most::<W>() {
+        if lies(a, x) {
+            seen = seen_with(op, x, b, seen);
+        }
+    }
+    let extent = seen.expect(rt, "the ends are numbers");
+    let arc = Wrapped::<W>::new(Word::wrapped(extent.least), Word::wrapped(extent.most));
+    assert_eq!(rt; shown(Wrapped::by_ends(op, a, b)), shown(Some(arc)));
+}
+
+fn compare_with_each<const W: u32>(rt: &impl Abort, a: &Ends<W>)
+    requires width { IsWidth W }
+    requires left { AreEnds W (shown_ends a.now) }
+{
+    'firsts: for first in 0..=most::<W>() {
+        'lasts: for last in 0..=most::<W>() {
+            let b = ends::<W>(first, last);
+            compare(rt, EndsOp::Umin, a, &b);
+            compare(rt, EndsOp::Umax, a, &b);
+            compare(rt, EndsOp::Smin, a, &b);
+            compare(rt, EndsOp::Smax, a, &b);
+            compare(rt, EndsOp::UaddSat, a, &b);
+            compare(rt, EndsOp::UsubSat, a, &b);
+            compare(rt, EndsOp::SaddSat, a, &b);
+            compare(rt, EndsOp::SsubSat, a, &b);
+        }
+    }
+}
+
+fn compare_all<const W: u32>(rt: &impl Abort)
+    requires { IsWidth W }
+{
+    'firsts: for first in 0..=most::<W>() {
+        'lasts: for last in 0..=most::<W>() {
+            compare_with_each(rt, &ends::<W>(first, last));
+        }
+    }
+}
+
+#[test]
+fn orders_and_saturations_of_all_arcs_of_small_widths(rt: HostRuntime) {
+    compare_all::<1>(&rt);
+    compare_all::<2>(&rt);
+    compare_all::<3>(&rt);
 }
