@@ -1,5 +1,5 @@
 -- Cells of one or of all numbers, and the members of cells.
-use Rattle.std.proofs.Common.{◌≡◌, ℕ, ◌+◌, ◌-◌, ◌^◌, ◌<◌, ◌≤◌, Bool, true, false, ◌&&◌, ◌||◌, sym, ◌∙◌, ap, subst, refl, arith, Option, Some, None, bit_xor, nat_eq}
+use Rattle.std.proofs.Common.{◌≡◌, ℕ, ◌+◌, ◌-◌, ◌^◌, ◌<◌, ◌≤◌, Bool, true, false, ◌&&◌, ◌||◌, sym, ◌∙◌, ap, subst, refl, arith, Option, Some, None, bit_xor}
 use Rattle.std.specs.Prelude.{IsTrue, ◌↔◌, nat_le}
 use Rattle.std.proofs.lemmas.Bool.{true≢false}
 use Rattle.std.proofs.lemmas.Bool.Decides.{nat_tests}
@@ -10,9 +10,9 @@ use Rattle.vfa_dom.proofs.SetSearches.{single_of_exact, single_of_empty}
 use Rattle.vfa_known.specs.Cube.{IsCube, in_masks, in_masks_fits}
 use Rattle.vfa_known.proofs.Cubes.{in_masks_from, in_masks_at, ones_in}
 use Rattle.vfa_known.proofs.Members.{any_cube, any_member, only_cube, only_member}
-use Rattle.vfa_wrap.specs.Arc.{Span, steps, in_span}
+use Rattle.vfa_wrap.specs.Arc.{in_span}
 use Rattle.vfa_wrap.proofs.ArcSets.{first_in, single_arc, single_first, single_none}
-use Rattle.vfa_wrap.proofs.Circle.{steps_is, in_to, full_is_arc, in_full}
+use Rattle.vfa_wrap.proofs.Circle.{steps_is, full_is_arc, in_full}
 use Rattle.vfa_fact.specs.declared.numbers.Numbers.{Numbers}
 use Rattle.vfa_fact.specs.Cells.{CellValue, IsCell, in_option, in_cell}
 use Rattle.vfa_fact.specs.Fact.{masks_in, span_in, in_numbers, in_numbers_fits, IsFact}

@@ -1,29 +1,29 @@
 -- The ends of the members that an operation can use.
-use Rattle.std.proofs.Common.{◌≡◌, ◌≢◌, ℕ, zero, suc, lit<, ◌+◌, ◌-◌, ◌^◌, ◌<◌, ◌≤◌, Bool, true, false, not, cond, ◌&&◌, sym, ◌∙◌, ap, subst, refl, arith, ◌⊎◌, inl, inr, min, max, Option, Some, None, nat_eq, nat_lt}
+use Rattle.std.proofs.Common.{◌≡◌, ◌≢◌, ℕ, zero, suc, lit<, ◌+◌, ◌-◌, ◌^◌, ◌<◌, ◌≤◌, Bool, true, false, not, ◌&&◌, sym, ◌∙◌, ap, subst, arith, ◌⊎◌, inl, inr, Option, Some, None, nat_eq, nat_lt}
 use Rattle.std.specs.Prelude.{IsTrue, IsSomeAnd, IfSome, MatchOption, nat_le}
 use Rattle.std.specs.Int.{bit_at}
 use Rattle.std.specs.Option.{option_map}
-use Rattle.std.proofs.lemmas.Bool.{cases_Bool, cases_lt, cond-true, cond-false, and_from, and_parts, true≢false}
+use Rattle.std.proofs.lemmas.Bool.{cases_Bool, cond-true, cond-false}
 use Rattle.std.proofs.lemmas.Bool.Decides.{nat_tests}
 use Rattle.std.proofs.lemmas.Nat.{pow_pos}
 use Rattle.std.proofs.lemmas.Nat.Bits.{bit_at-zero}
 use Rattle.std.proofs.Math.Path.{fun_ext}
 use Rattle.vfa_word.specs.Numbers.{signed_of}
-use Rattle.vfa_dom.specs.Search.{some_below, bits_below, flag}
+use Rattle.vfa_dom.specs.Search.{some_below, bits_below}
 use Rattle.vfa_dom.specs.Sets.{meet, is_empty}
-use Rattle.vfa_dom.proofs.Searches.{Found, found_some, some_found, none_found, none_passes, bit_at-bits_below, bits_below-lt, flag-true}
+use Rattle.vfa_dom.proofs.Searches.{Found, found_some, some_found, none_found, bit_at-bits_below, bits_below-lt, flag-true}
 use Rattle.vfa_dom.proofs.SetSearches.{meet_from, meet_parts}
 use Rattle.vfa_wrap.specs.Arc.{steps, full_span}
-use Rattle.vfa_wrap.specs.Between.{Between, AreEnds}
+use Rattle.vfa_wrap.specs.Between.{Between}
 use Rattle.vfa_wrap.specs.Ends.{EndsOf, ends_of}
 use Rattle.vfa_wrap.specs.Rows.{AreAmounts, AreDivisors}
 use Rattle.vfa_wrap.proofs.Circle.{full_is_arc, in_full}
 use Rattle.vfa_wrap.proofs.Truth.{untrue}
-use Rattle.vfa_wrap.proofs.SetEnds.{are_ends, are_amounts, are_divisors, between_ends}
+use Rattle.vfa_wrap.proofs.SetEnds.{are_amounts, are_divisors, between_ends}
 use Rattle.vfa_fact.specs.declared.numbers.Numbers.{Numbers}
 use Rattle.vfa_fact.specs.Cuts.{AmountsOf, ends_in, amounts_in, divisors_in, amounts_of, divisors_of}
 use Rattle.vfa_fact.specs.Fact.{IsFact}
-use Rattle.vfa_fact.specs.Interval.{interval, part_of, Reaches}
+use Rattle.vfa_fact.specs.Interval.{interval, Reaches}
 use Rattle.vfa_fact.specs.Sharp.{sharp_of}
 use Rattle.vfa_fact.proofs.CubeCuts.{from_zero}
 use Rattle.vfa_fact.proofs.EndsOfFacts.{ends_are}
@@ -237,20 +237,28 @@ module _ (w : ℕ) (T B U : ℕ → Bool) (one : 1 ≤ w) (fits : (x : ℕ) → 
         | inl here ↦ let less = (low y here).1 in omega (arith, st.1)
         | inr there ↦ u.upto y there
       ]))
-      (record { fits = fits r rt.0; member = rt.0; first = λ y hy is. signed_before r y (fits r rt.0) hy (λ less. absurd (omega (arith, rt.1))) (λ _ more. elim (split y is) [
-        | inl here ↦ absurd (let less = (low y here).1 in omega arith)
-        | inr there ↦ u.from y there
-      ]) })
-      (record { fits = fits q qt.0; member = qt.0; last = λ y hy is. signed_before y q hy (fits q qt.0) (λ less. elim (split y is) [
-        | inl here ↦ (qt.1, b.upto y here)
-        | inr there ↦ absurd (let more = (high y there).1 in omega arith)
-      ]) (λ _ more. absurd (omega (arith, qt.1))) })
+      (record {
+        fits = fits r rt.0;
+        member = rt.0;
+        first = λ y hy is. signed_before r y (fits r rt.0) hy (λ less. absurd (omega (arith, rt.1))) (λ _ more. elim (split y is) [
+          | inl here ↦ absurd (let less = (low y here).1 in omega arith)
+          | inr there ↦ u.from y there
+        ]);
+      })
+      (record {
+        fits = fits q qt.0;
+        member = qt.0;
+        last = λ y hy is. signed_before y q hy (fits q qt.0) (λ less. elim (split y is) [
+          | inl here ↦ (qt.1, b.upto y here)
+          | inr there ↦ absurd (let more = (high y there).1 in omega arith)
+        ]) (λ _ more. absurd (omega (arith, qt.1)));
+      })
 
   pub ends_of_low : (p q : ℕ) → Reaches B p q → ((x : ℕ) → U x ≡ true → ⊥) →
       ends_in w T ≡ Some (record { lo = p; hi = q; slo = signed_of w p; shi = signed_of w q })
   ends_of_low p q b none =
       let pt = low p b.first_in in let qt = low q b.last_in in
-      let here : (y : ℕ) → T y ≡ true → B y ≡ true = λ y is. elim (split y is) [ | inl one ↦ one | inr there ↦ absurd (none y there) ] in
+      let here : (y : ℕ) → T y ≡ true → B y ≡ true = λ y is. elim (split y is) [ inl one ↦ one | inr there ↦ absurd (none y there) ] in
       ends_by w T p q p q one
       (unsigned_first p pt.0 (λ y is. b.from y (here y is)))
       (unsigned_last q qt.0 (λ y is. b.upto y (here y is)))
@@ -261,7 +269,7 @@ module _ (w : ℕ) (T B U : ℕ → Bool) (one : 1 ≤ w) (fits : (x : ℕ) → 
       ends_in w T ≡ Some (record { lo = r; hi = s; slo = signed_of w r; shi = signed_of w s })
   ends_of_high r s u none =
       let rt = high r u.first_in in let st = high s u.last_in in
-      let there : (y : ℕ) → T y ≡ true → U y ≡ true = λ y is. elim (split y is) [ | inl here ↦ absurd (none y here) | inr one ↦ one ] in
+      let there : (y : ℕ) → T y ≡ true → U y ≡ true = λ y is. elim (split y is) [ inl here ↦ absurd (none y here) | inr one ↦ one ] in
       ends_by w T r s r s one
       (unsigned_first r rt.0 (λ y is. u.from y (there y is)))
       (unsigned_last s st.0 (λ y is. u.upto y (there y is)))

@@ -1,6 +1,6 @@
 -- The ends of the numbers of a cell, of all of them and of those that an operation can use.
-use Rattle.std.proofs.Common.{◌≡◌, ◌≢◌, ℕ, ◌<◌, Bool, true, sym, subst, refl, Option, Some, None}
-use Rattle.std.specs.Prelude.{IsTrue, IsSomeAnd, IfSome}
+use Rattle.std.proofs.Common.{◌≡◌, ◌≢◌, ℕ, ◌<◌, true, sym, subst, refl, Option, Some, None}
+use Rattle.std.specs.Prelude.{IsSomeAnd, IfSome}
 use Rattle.std.specs.Int.{bit_at}
 use Rattle.std.specs.Option.{option_map, option_and_then}
 use Rattle.std.proofs.lemmas.Bool.{true≢false}
@@ -15,7 +15,7 @@ use Rattle.vfa_fact.specs.declared.numbers.Numbers.{Numbers}
 use Rattle.vfa_fact.specs.CellCuts.{shown_cell_ends, shown_cell_amounts, cell_ends, cell_amounts, cell_divisors}
 use Rattle.vfa_fact.specs.Cells.{CellValue, IsCell, in_option, in_cell}
 use Rattle.vfa_fact.specs.Cuts.{AmountsOf, amounts_of, divisors_of}
-use Rattle.vfa_fact.specs.Fact.{in_numbers, in_numbers_fits, IsFact}
+use Rattle.vfa_fact.specs.Fact.{in_numbers, in_numbers_fits}
 use Rattle.vfa_fact.proofs.CutEnds.{amounts_fit, amounts_cover, divisors_usable, divisors_cover, if_shown, some_shown}
 use Rattle.vfa_fact.proofs.JoinedCells.{AreFacts}
 

@@ -1,7 +1,6 @@
 -- The ends of the members between two numbers, by the members below the middle and those from there on, and their mask.
 use Rattle.std.proofs.Common.{◌≡◌, ℕ, ℤ, ◌+◌, ◌-◌, ◌*◌, ◌%◌, ◌^◌, ◌<◌, ◌≤◌, Bool, true, false, sym, ◌∙◌, ap, subst, refl, arith, ◌⊎◌, inl, inr, min, max, add-one, lit<, bit_or, Option, Some, None}
 use Rattle.std.specs.Prelude.{IsTrue, IfSome, MatchOption}
-use Rattle.std.specs.Int.{bit_at}
 use Rattle.std.specs.Option.{option_or}
 use Rattle.std.proofs.lemmas.Bool.{cases_lt, true≢false}
 use Rattle.std.proofs.lemmas.Nat.{one_shl, or_disjoint, pow_pos}

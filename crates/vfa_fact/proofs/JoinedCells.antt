@@ -1,5 +1,5 @@
 -- The join of cells, and what a comparison leaves of a cell.
-use Rattle.std.proofs.Common.{◌≡◌, ℕ, ◌+◌, ◌^◌, ◌<◌, Bool, true, false, ◌&&◌, sym, ◌∙◌, ap, subst, refl, arith, min, inl, inr, Option, Some, None, bit_and}
+use Rattle.std.proofs.Common.{◌≡◌, ℕ, ◌+◌, ◌^◌, Bool, true, ◌&&◌, sym, ◌∙◌, ap, subst, refl, arith, inl, inr, Option, Some, None, bit_and}
 use Rattle.std.specs.Prelude.{IsTrue, IsSomeAnd, IfSome}
 use Rattle.std.specs.Option.{option_map}
 use Rattle.std.proofs.lemmas.Bool.{cases_eq, true≢false}
@@ -14,14 +14,14 @@ use Rattle.vfa_known.proofs.Members.{join_cube, join_left, join_right}
 use Rattle.vfa_ir.specs.declared.operations.Pred.{Pred}
 use Rattle.vfa_wrap.specs.Arc.{Span, steps, in_span, IsArc, arc_from, hull_of}
 use Rattle.vfa_wrap.proofs.ArcSets.{hull_reached}
-use Rattle.vfa_wrap.proofs.Circle.{steps_is, steps_back, from_all, from_part, full_is_arc, part_is_arc, arc_from-steps, arc_from-mod}
+use Rattle.vfa_wrap.proofs.Circle.{steps_is, from_all, from_part, full_is_arc, part_is_arc, arc_from-steps, arc_from-mod}
 use Rattle.vfa_wrap.proofs.SmallestArc.{reach_steps, reach_is, hull_tie}
 use Rattle.vfa_fact.specs.declared.numbers.Numbers.{Numbers}
 use Rattle.vfa_fact.specs.Cells.{CellValue, IsCell, in_option, in_cell, joined_numbers, joined_cells, compared_numbers, compared_cells, marked}
 use Rattle.vfa_fact.specs.Compare.{satisfies, partners, restrict_of}
 use Rattle.vfa_fact.specs.Fact.{masks_in, span_in, in_numbers, in_numbers_fits, IsFact}
 use Rattle.vfa_fact.specs.Join.{alike, hull_in, join_of}
-use Rattle.vfa_fact.specs.Sharp.{sharp_of, sharp_in}
+use Rattle.vfa_fact.specs.Sharp.{sharp_of}
 use Rattle.vfa_fact.proofs.Facts.{numbers_parts, fact_cube, arc_again}
 use Rattle.vfa_fact.proofs.Joins.{hull_left, hull_right}
 use Rattle.vfa_fact.proofs.Restricted.{kept_has}

@@ -1,10 +1,9 @@
 -- What a comparison leaves of the numbers of a fact.
 use Rattle.std.proofs.Common.{◌≡◌, ℕ, ◌^◌, ◌<◌, Bool, true, false, ◌&&◌, sym, ◌∙◌, ap, refl, arith, Option, Some, None}
-use Rattle.std.proofs.lemmas.Bool.{cases_Bool}
 use Rattle.vfa_dom.specs.Sets.{meet, is_empty}
 use Rattle.vfa_dom.proofs.SetSearches.{meet_from}
 use Rattle.vfa_known.specs.Cube.{in_masks}
-use Rattle.vfa_wrap.specs.Arc.{Span, in_span}
+use Rattle.vfa_wrap.specs.Arc.{in_span}
 use Rattle.vfa_fact.specs.declared.numbers.Numbers.{Numbers}
 use Rattle.vfa_fact.specs.Cells.{in_option}
 use Rattle.vfa_fact.specs.Compare.{Agree, partners}

@@ -1,17 +1,17 @@
 -- Sharp facts of the members of a set in an arc.
-use Rattle.std.proofs.Common.{◌≡◌, ℕ, ◌^◌, ◌<◌, Bool, true, false, sym, ◌∙◌, ap, subst, arith, refl, Option, Some, None}
-use Rattle.std.specs.Prelude.{IsTrue, IsSomeAnd, IfSome}
+use Rattle.std.proofs.Common.{◌≡◌, ℕ, ◌^◌, ◌<◌, Bool, true, sym, ◌∙◌, arith, Option, Some, None}
+use Rattle.std.specs.Prelude.{IsTrue, IsSomeAnd}
 use Rattle.std.specs.Option.{option_map}
 use Rattle.std.proofs.lemmas.Bool.{true≢false}
 use Rattle.vfa_dom.specs.Sets.{meet}
 use Rattle.vfa_dom.proofs.SetSearches.{meet_from, meet_parts}
-use Rattle.vfa_wrap.specs.Arc.{Span, steps, in_span, IsArc}
+use Rattle.vfa_wrap.specs.Arc.{Span, in_span, IsArc}
 use Rattle.vfa_wrap.proofs.Circle.{steps_is, in_from}
 use Rattle.vfa_fact.specs.declared.numbers.Numbers.{Numbers}
 use Rattle.vfa_fact.specs.Cells.{in_option}
 use Rattle.vfa_fact.specs.Fact.{span_in, in_numbers, IsFact}
 use Rattle.vfa_fact.specs.Sharp.{sharp_of, sharp_in}
-use Rattle.vfa_fact.proofs.SharpSets.{sharp_is, sharp_alike, sharp_tells, sharp_none_tells}
+use Rattle.vfa_fact.proofs.SharpSets.{sharp_is, sharp_tells, sharp_none_tells}
 use Rattle.vfa_fact.proofs.Facts.{sharp_fact, set_in, fact_best, numbers_parts}
 
 module _ (w : ℕ) (arc : Span) (S : ℕ → Bool) (is : IsArc w arc) where

@@ -9,9 +9,8 @@ ghost use Rattle.vfa_wrap.specs.Between.{Between, AreEnds};
 ghost use Rattle.vfa_wrap.specs.Ends.{shown_ends};
 ghost use Rattle.vfa_wrap.specs.Rows.{AreAmounts, AreDivisors};
 
-use crate::at_width;
 use crate::cell::{Cell, CellAmounts, CellEnds};
-use crate::{Fact, Numbers};
+use crate::{Fact, Numbers, at_width};
 use vfa_dom::Domain;
 use vfa_ir::Pred;
 use vfa_wrap::Ends;

@@ -94,7 +94,11 @@ pub(crate) fn all_facts<const W: u32>(alloc: Global) -> Result<Vec<Fact<W>>, All
 
 /// The numbers of the fact of the numbers that agree, lie in the arc and pass, by a list of all numbers of the width, going
 /// up from the arc's first.
-pub(crate) fn listed<const W: u32>(known: &Known<W>, arc: &Wrapped<W>, test: &Test<W>) -> Option<Numbers>
+pub(crate) fn listed<const W: u32>(
+    known: &Known<W>,
+    arc: &Wrapped<W>,
+    test: &Test<W>,
+) -> Option<Numbers>
     requires { IsWidth W }
 {
     let most = most::<W>();

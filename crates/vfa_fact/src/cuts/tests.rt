@@ -105,7 +105,9 @@ fn amounts_of_a_turned_arc(rt: HostRuntime) {
     let arc = Wrapped::new(Word::cut(3), Word::cut(1));
     let any: Fact<6> = Fact::any();
     let fact = Fact::sharp(any.known(), arc, &Test::inside(arc)).expect(&rt, "an arc has numbers");
-    let amounts = Cell::of(&fact, true).amounts().expect(&rt, "3 to 5, 0 and 1");
+    let amounts = Cell::of(&fact, true)
+        .amounts()
+        .expect(&rt, "3 to 5, 0 and 1");
     assert_eq!(rt; amounts.mask, 0b111011);
     assert_eq!(rt; (amounts.ends.lo, amounts.ends.hi), (0, 5));
     // the fact of these amounts has more numbers than they are
@@ -119,7 +121,9 @@ fn divisors_on_both_sides_of_zero(rt: HostRuntime) {
     let arc = Wrapped::new(Word::cut(254), Word::cut(3));
     let any: Fact<8> = Fact::any();
     let fact = Fact::sharp(any.known(), arc, &Test::inside(arc)).expect(&rt, "an arc has numbers");
-    let ends = Cell::of(&fact, true).divisors().expect(&rt, "-2, -1 and 1 to 3");
+    let ends = Cell::of(&fact, true)
+        .divisors()
+        .expect(&rt, "-2, -1 and 1 to 3");
     assert_eq!(rt; (ends.lo, ends.hi), (1, 255));
     assert_eq!(rt; (ends.slo, ends.shi), (-2, 3));
     assert!(rt; Cell::literal(8, 0).divisors().is_none());

@@ -1,9 +1,9 @@
-use Rattle.std.proofs.Common.{◌≡◌, ◌∙◌, ap, sym, subst, ℕ, Bool, true, Option, Some, None, refl, rules, arith}
+use Rattle.std.proofs.Common.{◌≡◌, ◌∙◌, ap, sym, Bool, true, Option, Some, None, refl, rules, arith}
 use Rattle.std.specs.Option.{option_eq}
 use Rattle.vfa_fact.specs.declared.numbers.Numbers.{Numbers}
 use Rattle.vfa_fact.specs.contracts.numbers.NumbersPartialEq.TheImpl.{eq-value}
 use Rattle.vfa_fact.specs.Cells.{CellValue, joined_numbers}
-use Rattle.vfa_fact.proofs.JoinedCells.{both_again, joined_cell, both_left, both_right}
+use Rattle.vfa_fact.proofs.JoinedCells.{both_again}
 use Rattle.vfa_fact.proofs.cell_calls.numbers_of_both.Goals as goal
 
 equal_options : (E : Numbers → Numbers → Bool) → ((x y : Numbers) → E x y ≡ true → x ≡ y) → (m n : Option Numbers) → option_eq E m n ≡ true → m ≡ n

@@ -1,4 +1,4 @@
-use Rattle.std.proofs.Common.{◌≡◌, ◌∙◌, ℕ, ◌<◌, ◌^◌, Bool, true, false, ap, sym, arith}
+use Rattle.std.proofs.Common.{◌≡◌, ◌∙◌, ◌<◌, ◌^◌, true, false, ap, sym, arith}
 use Rattle.std.proofs.lemmas.Nat.{pow_pos}
 use Rattle.vfa_wrap.proofs.Truth.{untrue}
 use Rattle.vfa_fact.specs.Cells.{CellValue, in_cell}

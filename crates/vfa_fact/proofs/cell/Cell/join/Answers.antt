@@ -1,4 +1,4 @@
-use Rattle.std.proofs.Common.{◌≡◌, ◌∙◌, ap, sym, subst, rules}
+use Rattle.std.proofs.Common.{◌∙◌, ap, sym, subst, rules}
 use Rattle.vfa_fact.specs.Cells.{CellValue, IsCell, in_cell}
 use Rattle.vfa_fact.proofs.JoinedCells.{joined_cell, joined_left, joined_right}
 use Rattle.vfa_fact.proofs.cell.Cell.join.Goals as goal

@@ -1,8 +1,8 @@
-use Rattle.std.proofs.Common.{◌≡◌, ℕ, ◌+◌, ◌-◌, ◌^◌, ap, refl, arith, Some, true, bit_xor}
+use Rattle.std.proofs.Common.{◌≡◌, ℕ, ◌+◌, ◌-◌, ◌^◌, ap, refl, arith, Some, true}
 use Rattle.std.proofs.lemmas.Nat.{pow_pos}
 use Rattle.vfa_dom.specs.Best.{Masks}
 use Rattle.vfa_known.proofs.Members.{only_masks}
-use Rattle.vfa_fact.specs.Cells.{CellValue, in_option}
+use Rattle.vfa_fact.specs.Cells.{in_option}
 use Rattle.vfa_fact.proofs.CellNumbers.{cell_with, only_fact, only_has}
 use Rattle.vfa_fact.proofs.cell.Cell.literal.Goals as goal
 

@@ -1,4 +1,4 @@
-use Rattle.std.proofs.Common.{◌≡◌, ◌≢◌, ◌∙◌, ℕ, ◌<◌, ◌≤◌, ◌^◌, ap, sym, subst, arith, lit<, Option}
+use Rattle.std.proofs.Common.{◌≡◌, ◌≢◌, ◌∙◌, ◌<◌, ◌^◌, ap, sym, subst, arith, lit<, Option}
 use Rattle.std.specs.Prelude.{IfSome, IsSomeAnd}
 use Rattle.std.specs.Int.{bit_at}
 use Rattle.std.specs.Option.{option_map}
@@ -43,11 +43,19 @@ overflow_cast-ends-2 g c = let fact = c.args.self.now in
 pub mask_between-mask-requires : goal.mask_between-mask-requires
 mask_between-mask-requires g c = let fact = c.args.self.now in
     let some = ap (option_map (shown_ends {W = g.row.W})) c.in_ok-ends.was in
-    let fit = amount_ends_fit g.row.W c.from.result (in_fact g.row.W fact) _ fact.known.width.least c.ends_between.ensures c.from.ensures (shown_ends {W = g.row.W} c.in_ok-ends.ends) some in
-    (lit< tt, (fit.0.lo.upto, (fit.1, (
-      none_under g.row.W c.from.result (in_fact g.row.W fact) _ fact.known.width.least c.ends_between.ensures c.from.ensures (shown_ends {W = g.row.W} c.in_ok-ends.ends) some,
-      none_over g.row.W c.from.result (in_fact g.row.W fact) _ fact.known.width.least c.ends_between.ensures c.from.ensures (shown_ends {W = g.row.W} c.in_ok-ends.ends) some,
-    ))))
+    let fit = amount_ends_fit g.row.W c.from.result (in_fact g.row.W fact) _ fact.known.width.least c.ends_between.ensures c.from.ensures (shown_ends {W = g.row.W} c.in_ok-ends.ends) some in (
+      lit< tt,
+      (
+        fit.0.lo.upto,
+        (
+          fit.1,
+          (
+            none_under g.row.W c.from.result (in_fact g.row.W fact) _ fact.known.width.least c.ends_between.ensures c.from.ensures (shown_ends {W = g.row.W} c.in_ok-ends.ends) some,
+            none_over g.row.W c.from.result (in_fact g.row.W fact) _ fact.known.width.least c.ends_between.ensures c.from.ensures (shown_ends {W = g.row.W} c.in_ok-ends.ends) some,
+          ),
+        ),
+      ),
+    )
 
 pub returns-clause-exact : goal.returns-clause-exact
 returns-clause-exact g c = let fact = c.args.self.now in

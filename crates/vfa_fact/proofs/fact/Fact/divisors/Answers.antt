@@ -1,11 +1,10 @@
-use Rattle.std.proofs.Common.{◌≡◌, ◌∙◌, ℕ, ◌<◌, ◌^◌, ap, sym, subst, arith, lit<, Option}
+use Rattle.std.proofs.Common.{◌∙◌, ap, sym, subst, arith, lit<, Option}
 use Rattle.std.specs.Prelude.{IfSome, IsSomeAnd}
-use Rattle.std.specs.Option.{option_map}
 use Rattle.std.proofs.lemmas.Nat.{pow_below}
 use Rattle.vfa_wrap.specs.Between.{Between}
 use Rattle.vfa_wrap.specs.Ends.{EndsOf, shown_ends}
 use Rattle.vfa_wrap.specs.Rows.{AreDivisors}
-use Rattle.vfa_fact.specs.Cuts.{ends_in, divisors_in, divisors_of}
+use Rattle.vfa_fact.specs.Cuts.{ends_in, divisors_of}
 use Rattle.vfa_fact.specs.Fact.{in_numbers_fits}
 use Rattle.vfa_fact.specs.Views.{numbers_of, in_fact}
 use Rattle.vfa_fact.proofs.CutEnds.{divisors_between, divisors_usable, divisors_cover, if_shown, some_shown}
