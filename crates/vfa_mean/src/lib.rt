@@ -20,3 +20,6 @@ pub use laws::{
 };
 pub use operation::eval;
 pub use value::{Done, Val};
+
+#[cfg(test)]
+mod tests;
