@@ -2,6 +2,7 @@ pub mod DefinedNames
 pub mod Grammar
 pub mod Lexemes
 pub mod Names
+pub mod Operands
 pub mod PhisFit
 pub mod Printable
 pub mod Reads

@@ -1,6 +1,7 @@
 -- The words of the language, each in the order of the LLVM Language Reference.
-use Rattle.std.specs.Prelude.{ℕ, ◌++◌, List, [], ◌∷◌, Bool, false, ◌==◌, ◌&&◌, ◌||◌, codes, decimal, bytes_eq}
+use Rattle.std.specs.Prelude.{ℕ, ◌++◌, List, [], ◌∷◌, Bool, false, ◌==◌, ◌&&◌, ◌||◌, take, codes, decimal, bytes_eq}
 use Rattle.std.specs.List.{list_any, list_all}
+use Rattle.std.specs.Str.{byte}
 use Rattle.std.specs.Char.{is_ascii_digit}
 use Rattle.vfa_ir.specs.declared.operations.Bin.{Bin}
 use Rattle.vfa_ir.specs.declared.operations.Cast.{Cast}
@@ -18,10 +19,10 @@ abbrev pub is_digits : List ℕ → Bool
 is_digits [] = false
 is_digits (c ∷ cs) = is_ascii_digit c && list_all is_ascii_digit cs
 
--- whether the text is digits, perhaps behind a `-`
+-- whether the text is digits, perhaps after a `-`
 abbrev pub is_number : List ℕ → Bool
 is_number [] = false
-is_number (c ∷ cs) = is_digits (c ∷ cs) || (c == 45 && is_digits cs)
+is_number (c ∷ cs) = is_digits (c ∷ cs) || (c == byte "-" && is_digits cs)
 
 -- `iN`
 abbrev pub type_word : ℕ → List ℕ
@@ -38,6 +39,11 @@ lead_words = codes "private" ∷ codes "internal" ∷ codes "available_externall
 -- "Parameter Attributes": what may stand between a parameter's type and its name
 abbrev pub parameter_words : List (List ℕ)
 parameter_words = codes "noundef" ∷ codes "zeroext" ∷ codes "signext" ∷ codes "inreg" ∷ codes "returned" ∷ []
+
+-- "Calling Conventions" and "Parameter Attributes": what may stand between `call` and the type of the result
+abbrev pub call_words : List (List ℕ)
+call_words = codes "ccc" ∷ codes "fastcc" ∷ codes "coldcc" ∷ codes "tailcc" ∷ codes "noundef" ∷ codes "zeroext"
+    ∷ codes "signext" ∷ codes "inreg" ∷ []
 
 -- "Binary Operations" and "Bitwise Binary Operations"
 abbrev pub bin_word : Bin → List ℕ
@@ -68,7 +74,7 @@ flags_of Bin.Ashr = codes "exact" ∷ []
 flags_of Bin.Urem = []
 flags_of Bin.Srem = []
 flags_of Bin.And = []
-flags_of Bin.Or = []
+flags_of Bin.Or = codes "disjoint" ∷ []
 flags_of Bin.Xor = []
 
 -- "icmp Instruction"
@@ -89,6 +95,12 @@ abbrev pub cast_word : Cast → List ℕ
 cast_word Cast.Zext = codes "zext"
 cast_word Cast.Sext = codes "sext"
 cast_word Cast.Trunc = codes "trunc"
+
+-- the flags that a conversion may have
+abbrev pub cast_flags_of : Cast → List (List ℕ)
+cast_flags_of Cast.Zext = codes "nneg" ∷ []
+cast_flags_of Cast.Sext = []
+cast_flags_of Cast.Trunc = codes "nuw" ∷ codes "nsw" ∷ []
 
 -- "Standard C/C++ Library Intrinsics" and "Saturation Arithmetic Intrinsics"
 abbrev pub fun2_word : Fun2 → List ℕ
@@ -116,6 +128,10 @@ over_word Over.Usub = codes "usub.with.overflow"
 over_word Over.Ssub = codes "ssub.with.overflow"
 over_word Over.Umul = codes "umul.with.overflow"
 over_word Over.Smul = codes "smul.with.overflow"
+
+-- "Intrinsic Functions": whether a name is one of an intrinsic, known or not
+abbrev pub is_intrinsic : List ℕ → Bool
+is_intrinsic name = bytes_eq (take 5 name) (codes "llvm.")
 
 -- the name of an intrinsic at a type, as `llvm.umin.i8`
 abbrev pub callee : List ℕ → ℕ → List ℕ

@@ -5,6 +5,7 @@ mod functions;
 mod lists;
 mod names;
 mod numbering;
+mod operands;
 mod operations;
 mod reasons;
 pub mod syntax;
@@ -16,6 +17,7 @@ pub use functions::{Block, CallArg, CallOp, Function, Inst, Lines, Param, Phi, T
 pub use lists::{Few, Items};
 pub use names::Name;
 pub use numbering::{Local, locals, shown_block, shown_value};
+pub use operands::operand;
 pub use operations::{Bin, BlockId, Cast, CastFlags, Flags, Fun1, Fun2, Op, Operand, Over, Pred, Ty, ValueId};
 pub use reasons::{Kind, Outside};
 pub use tokens::{Token, TokenKind};
