@@ -4,8 +4,6 @@ use Rattle.std.specs.Prelude.{◌≡◌, ◌≤◌, ℕ, ◌+◌, ◌-◌, ◌^�
 use Rattle.std.specs.List.{IsDistinct}
 use Rattle.std.specs.Str.{byte}
 use Rattle.std.specs.Str.Parse.{digits_value}
-use Rattle.vfa_ir.specs.declared.operations.Bin.{Bin}
-use Rattle.vfa_ir.specs.declared.operations.Cast.{Cast}
 use Rattle.vfa_ir.specs.declared.operations.Fun1.{Fun1}
 use Rattle.vfa_ir.specs.declared.syntax.Literal.{Literal}
 use Rattle.vfa_ir.specs.declared.syntax.Written.{Written}

@@ -29,13 +29,7 @@ fn of_two(width: u32, a: Operand, b: Operand, place: usize) -> Option<(Ty, Opera
 }
 
 /// The operand of a place among those of a `select`.
-fn of_select(
-    width: u32,
-    c: Operand,
-    a: Operand,
-    b: Operand,
-    place: usize,
-) -> Option<(Ty, Operand)>
+fn of_select(width: u32, c: Operand, a: Operand, b: Operand, place: usize) -> Option<(Ty, Operand)>
     ensures { result ≡ slice_get ((Int 1, c) ∷ pair_of_width width a b) place }
 {
     match place {
@@ -86,7 +80,11 @@ impl Op {
     {
         match *self {
             Op::Bin {
-                bin, width, a, b, ..
+                bin,
+                width,
+                a,
+                b,
+                ..
             } => Op::Bin {
                 bin,
                 flags: Flags {
@@ -100,7 +98,11 @@ impl Op {
                 b,
             },
             Op::Icmp {
-                pred, width, a, b, ..
+                pred,
+                width,
+                a,
+                b,
+                ..
             } => Op::Icmp {
                 pred,
                 samesign: false,
@@ -109,7 +111,11 @@ impl Op {
                 b,
             },
             Op::Cast {
-                cast, from, to, a, ..
+                cast,
+                from,
+                to,
+                a,
+                ..
             } => Op::Cast {
                 cast,
                 flags: CastFlags {
