@@ -4,11 +4,8 @@ use Rattle.std.specs.Prelude.{ℕ, ◌+◌, List, [], ◌∷◌, ◌++◌, map, 
 use Rattle.vfa_ir.specs.declared.syntax.Written.{Written}
 use Rattle.vfa_ir.specs.declared.syntax.Parameter.{Parameter}
 use Rattle.vfa_ir.specs.declared.syntax.PhiNode.{PhiNode}
-use Rattle.vfa_ir.specs.declared.syntax.Incoming.{Incoming}
-use Rattle.vfa_ir.specs.declared.syntax.Line.{Line}
-use Rattle.vfa_ir.specs.declared.syntax.PhiPart.{PhiPart}
 use Rattle.vfa_ir.specs.declared.syntax.Operation.{Operation}
-use Rattle.vfa_ir.specs.declared.syntax.Transfer.{Transfer}
+use Rattle.vfa_ir.specs.declared.syntax.TerminatorKind.{TerminatorKind}
 use Rattle.vfa_ir.specs.declared.syntax.BasicBlock.{BasicBlock}
 use Rattle.vfa_ir.specs.Sentence.{Sentence}
 use Rattle.vfa_ir.specs.Words.{is_among, is_digits}
@@ -32,12 +29,8 @@ abbrev pub block_name : Sentence → BasicBlock → List ℕ
 block_name s b = unwrap_or b.label (decimal (count_by is_numbered s.parameters))
 
 -- the results of a block in text order
-abbrev pub line_result : Line → Option (List ℕ)
-line_result (Line.Phi p) = Some p.result
-line_result (Line.Plain i) = i.result
-
 abbrev pub block_results : BasicBlock → List (List ℕ)
-block_results b = filter_map line_result b.lines
+block_results b = map (λ p. p.result) b.phis ++ filter_map (λ i. i.result) b.instructions
 
 -- the values and the blocks that a function defines, each in text order
 abbrev pub value_names : Sentence → List (List ℕ)
@@ -61,41 +54,32 @@ value_uses (Written.Literal _) = []
 value_uses Written.Poison = []
 
 -- the operands of a phi in text order
-abbrev pub part_entry : PhiPart → Option Incoming
-part_entry (PhiPart.Entry i) = Some i
-part_entry (PhiPart.Attached _) = None
-
-abbrev pub phi_entries : PhiNode → List Incoming
-phi_entries p = p.first ∷ filter_map part_entry p.parts
-
 abbrev pub phi_uses : PhiNode → List Use
-phi_uses p = flat_map (λ i. value_uses i.value ++ (of_block i.block ∷ [])) (phi_entries p)
+phi_uses p = flat_map (λ i. value_uses i.value ++ (of_block i.block ∷ [])) p.entries
 
 abbrev pub operation_uses : Operation → List Use
 operation_uses (Operation.Binary _ _ _ a b) = value_uses a ++ value_uses b
-operation_uses (Operation.Compare _ _ a b) = value_uses a ++ value_uses b
+operation_uses (Operation.Compare _ _ _ a b) = value_uses a ++ value_uses b
 operation_uses (Operation.Select c _ a b) = value_uses c ++ (value_uses a ++ value_uses b)
-operation_uses (Operation.Convert _ _ a _) = value_uses a
+operation_uses (Operation.Convert _ _ _ a _) = value_uses a
 operation_uses (Operation.Freeze _ a) = value_uses a
 operation_uses (Operation.Extract _ pair _) = of_value pair ∷ []
 operation_uses (Operation.Two _ _ _ a b) = value_uses a ++ value_uses b
 operation_uses (Operation.One _ _ _ a _) = value_uses a
 operation_uses (Operation.Over _ _ _ a b) = value_uses a ++ value_uses b
 operation_uses (Operation.Assume _ c) = value_uses c
+operation_uses (Operation.Call _ _ _ _ arguments) = flat_map (λ a. value_uses a.value) arguments
 
-abbrev pub transfer_uses : Transfer → List Use
-transfer_uses (Transfer.Return _ a) = value_uses a
-transfer_uses (Transfer.Always to) = of_block to ∷ []
-transfer_uses (Transfer.Condition c taken fallen) = value_uses c ++ (of_block taken ∷ of_block fallen ∷ [])
-transfer_uses (Transfer.Switch _ on default cases) = value_uses on ++ (of_block default ∷ map (λ c. of_block c.block) cases)
-transfer_uses Transfer.Unreachable = []
-
-abbrev pub line_uses : Line → List Use
-line_uses (Line.Phi p) = phi_uses p
-line_uses (Line.Plain i) = operation_uses i.operation
+abbrev pub terminator_uses : TerminatorKind → List Use
+terminator_uses (TerminatorKind.Return _ a) = value_uses a
+terminator_uses (TerminatorKind.Always to) = of_block to ∷ []
+terminator_uses (TerminatorKind.Condition c taken fallen) = value_uses c ++ (of_block taken ∷ of_block fallen ∷ [])
+terminator_uses (TerminatorKind.Switch _ on default cases) = value_uses on ++ (of_block default ∷ map (λ c. of_block c.block) cases)
+terminator_uses TerminatorKind.Unreachable = []
 
 abbrev pub block_uses : BasicBlock → List Use
-block_uses b = flat_map line_uses b.lines ++ transfer_uses b.terminator.transfer
+block_uses b =
+    flat_map phi_uses b.phis ++ (flat_map (λ i. operation_uses i.operation) b.instructions ++ terminator_uses b.terminator.kind)
 
 -- all uses in text order
 abbrev pub uses : Sentence → List Use

@@ -3,6 +3,7 @@ pub mod DefinedNames
 pub mod Grammar
 pub mod Lexemes
 pub mod Names
+pub mod Operands
 pub mod PhisFit
 pub mod Predicates
 pub mod Printable

@@ -1,8 +1,10 @@
 -- Which functions some text reads as, said without a text (LLVM Language Reference, "Functions", "Identifiers" and
 -- "Instruction Reference"): ids stand in text order, names are defined once, widths and numbers lie in their ranges.
-use Rattle.std.specs.Prelude.{◌≡◌, ◌≤◌, ◌<◌, ◌^◌, ℕ, ◌++◌, List, [], length, map, flat_map, filter_map, take, drop, All, IsTrue, Bool, false, Option, Some, None, ⊤, bytes_eq, codes, if◌then◌else◌, ◌==◌}
+use Rattle.std.specs.Prelude.{◌≡◌, ◌≤◌, ◌<◌, ◌^◌, ℕ, ◌++◌, List, [], length, map, flat_map, filter_map, take, drop, All, IsTrue, Bool, false, not, Option, Some, None, unwrap_or, ⊤, bytes_eq, codes, if◌then◌else◌, ◌==◌}
 use Rattle.std.specs.List.{IsDistinct, range_with_len}
 use Rattle.vfa_ir.specs.declared.operations.Bin.{Bin}
+use Rattle.vfa_ir.specs.declared.operations.Cast.{Cast}
+use Rattle.vfa_ir.specs.declared.operations.CastFlags.{CastFlags}
 use Rattle.vfa_ir.specs.declared.operations.Flags.{Flags}
 use Rattle.vfa_ir.specs.declared.operations.Fun1.{Fun1}
 use Rattle.vfa_ir.specs.declared.operations.Op.{Op}
@@ -11,14 +13,16 @@ use Rattle.vfa_ir.specs.declared.operations.Ty.{Ty}
 use Rattle.vfa_ir.specs.declared.operations.ValueId.{ValueId}
 use Rattle.vfa_ir.specs.declared.operations.BlockId.{BlockId}
 use Rattle.vfa_ir.specs.declared.functions.Block.{Block}
+use Rattle.vfa_ir.specs.declared.functions.CallArg.{CallArg}
+use Rattle.vfa_ir.specs.declared.functions.CallOp.{CallOp}
 use Rattle.vfa_ir.specs.declared.functions.Function.{Function}
 use Rattle.vfa_ir.specs.declared.functions.Inst.{Inst}
 use Rattle.vfa_ir.specs.declared.functions.Phi.{Phi}
 use Rattle.vfa_ir.specs.declared.functions.Term.{Term}
-use Rattle.vfa_ir.specs.Grammar.{IsWidth, may_follow_parameters, is_balanced}
+use Rattle.vfa_ir.specs.Grammar.{IsWidth, AreWords, FitsResultType, may_follow_parameters, is_balanced}
 use Rattle.vfa_ir.specs.TokenLexemes.{lexemes, bytes_between}
 use Rattle.vfa_ir.specs.Tokens.{tokens_of}
-use Rattle.vfa_ir.specs.Words.{is_among, is_digits, lead_words, parameter_words, flags_of}
+use Rattle.vfa_ir.specs.Words.{is_among, is_digits, is_intrinsic, lead_words, parameter_words, call_words, flags_of, cast_flags_of}
 
 -- a name that values and blocks keep: not empty, and not of digits alone
 pub record IsKeptName (name : List ℕ) : Type 0 where
@@ -51,8 +55,7 @@ op_type (Op.One _ width _ _) = Ty.Int width
 op_type (Op.Over _ width _ _) = Ty.Pair width
 op_type (Op.Part width _ index) = if index == 0 then Ty.Int width else Ty.Int 1
 op_type (Op.Assume _) = Ty.Int 1
-op_type (Op.Call (Some width) _) = Ty.Int width
-op_type (Op.Call None _) = Ty.Int 1
+op_type (Op.Call width _) = Ty.Int (unwrap_or width 1)
 
 abbrev pub inst_types : List Inst → List Ty
 inst_types = filter_map (λ i. elim i.result [ None ↦ None | Some _ ↦ Some (op_type i.op) ])
@@ -60,7 +63,7 @@ inst_types = filter_map (λ i. elim i.result [ None ↦ None | Some _ ↦ Some (
 abbrev pub block_types : Block → List Ty
 block_types b = map (λ p. Ty.Int p.width) b.phis ++ inst_types b.insts
 
--- The first values are the parameters, of integer types; behind them each result has the type of what defines it.
+-- The first values are the parameters, of integer types; after them each result has the type of what defines it.
 abbrev pub IsIntegerType : Ty → Type 0
 IsIntegerType (Ty.Int width) = IsWidth width
 IsIntegerType (Ty.Pair _) = ⊥
@@ -88,6 +91,12 @@ pub record HasItsFlags (bin : Bin) (flags : Flags) : Type 0 where
   pub nuw : IsTrue flags.nuw → IsTrue (is_among (codes "nuw") (flags_of bin))
   pub nsw : IsTrue flags.nsw → IsTrue (is_among (codes "nsw") (flags_of bin))
   pub exact : IsTrue flags.exact → IsTrue (is_among (codes "exact") (flags_of bin))
+  pub disjoint : IsTrue flags.disjoint → IsTrue (is_among (codes "disjoint") (flags_of bin))
+
+pub record HasItsCastFlags (cast : Cast) (flags : CastFlags) : Type 0 where
+  pub nuw : IsTrue flags.nuw → IsTrue (is_among (codes "nuw") (cast_flags_of cast))
+  pub nsw : IsTrue flags.nsw → IsTrue (is_among (codes "nsw") (cast_flags_of cast))
+  pub nneg : IsTrue flags.nneg → IsTrue (is_among (codes "nneg") (cast_flags_of cast))
 
 -- `llvm.ctpop` has no second argument
 abbrev pub HasItsArgument : Fun1 → Bool → Type 0
@@ -98,19 +107,21 @@ abbrev pub PrintableOp : Function → Op → Type 0
 PrintableOp f (Op.Bin bin flags width a b) = HasItsFlags bin flags × AreOperands f width a b
 PrintableOp f (Op.Icmp _ _ width a b) = AreOperands f width a b
 PrintableOp f (Op.Select width c a b) = IsOperand f 1 c × AreOperands f width a b
-PrintableOp f (Op.Cast _ _ from to a) = IsWidth from × IsOperand f from a × IsWidth to
+PrintableOp f (Op.Cast cast flags from to a) = HasItsCastFlags cast flags × IsWidth from × IsOperand f from a × IsWidth to
 PrintableOp f (Op.Freeze width a) = IsWidth width × IsOperand f width a
 PrintableOp f (Op.Two _ width a b) = AreOperands f width a b
 PrintableOp f (Op.One fun width a strict) = IsWidth width × IsOperand f width a × HasItsArgument fun strict
 PrintableOp f (Op.Over _ width a b) = AreOperands f width a b
 PrintableOp f (Op.Part width pair index) = IsWidth width × (pair.0 < length f.values) × (index ≤ 1)
 PrintableOp f (Op.Assume c) = IsOperand f 1 c
-PrintableOp f (Op.Call _ _) = ⊥
+PrintableOp f (Op.Call width _) = FitsResultType width
 
--- all but `llvm.assume` have a result
+-- all but `llvm.assume` and calls of `void` have a result
 abbrev pub HasItsResult : Op → Option ValueId → Type 0
 HasItsResult (Op.Assume _) None = ⊤
 HasItsResult (Op.Assume _) (Some _) = ⊥
+HasItsResult (Op.Call None _) None = ⊤
+HasItsResult (Op.Call None _) (Some _) = ⊥
 HasItsResult _ None = ⊥
 HasItsResult _ (Some _) = ⊤
 
@@ -136,6 +147,30 @@ pub record PrintableBlock (f : Function) (b : Block) : Type 0 where
   pub insts : All (PrintableInst f) b.insts
   pub term : PrintableTerm f b.term
 
+-- The calls stand in text order, and there are no others.
+abbrev pub call_place : Op → Option ℕ
+call_place (Op.Call _ place) = Some place
+call_place _ = None
+
+abbrev pub block_call_places : Block → List ℕ
+block_call_places b = filter_map (λ i. call_place i.op) b.insts
+
+abbrev pub call_places : Function → List ℕ
+call_places f = flat_map block_call_places f.blocks
+
+-- "call Instruction": the arguments are operands, the words are those of calls and of parameters, and the function is no
+-- intrinsic
+pub record PrintableArgument (f : Function) (a : CallArg) : Type 0 where
+  pub width : IsWidth a.width
+  pub words : AreWords parameter_words a.words
+  pub value : IsOperand f a.width a.value
+
+pub record PrintableCall (f : Function) (c : CallOp) : Type 0 where
+  pub some : c.callee ≡ [] → ⊥
+  pub no_intrinsic : IsTrue (not (is_intrinsic c.callee))
+  pub words : AreWords call_words c.words
+  pub arguments : All (PrintableArgument f) c.args
+
 -- The bytes between the parameters and the body: none, or those from the first to the last of their tokens.
 pub record IsTail (tail : List ℕ) : Type 0 where
   pub whole : bytes_between tail (tokens_of tail) ≡ tail
@@ -144,9 +179,9 @@ pub record IsTail (tail : List ℕ) : Type 0 where
 
 pub record IsPrintable (f : Function) : Type 0 where
   pub name : f.name ≡ [] → ⊥
-  pub lead : All (λ w. IsTrue (is_among w lead_words)) f.lead
+  pub lead : AreWords lead_words f.lead
   pub width : IsWidth f.width
-  pub words : All (λ p. All (λ w. IsTrue (is_among w parameter_words)) p.words) f.params
+  pub words : All (λ p. AreWords parameter_words p.words) f.params
   pub tail : IsTail f.tail
   pub ids : ids_of f ≡ range_with_len 0 (length f.values)
   pub types : HasItsTypes f
@@ -154,3 +189,5 @@ pub record IsPrintable (f : Function) : Type 0 where
   pub distinct : IsDistinct bytes_eq (kept_names f)
   pub some : f.blocks ≡ [] → ⊥
   pub blocks : All (PrintableBlock f) f.blocks
+  pub call_places : call_places f ≡ range_with_len 0 (length f.calls)
+  pub calls : All (PrintableCall f) f.calls

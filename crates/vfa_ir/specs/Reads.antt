@@ -5,7 +5,7 @@ use Rattle.vfa_ir.specs.declared.functions.Function.{Function}
 use Rattle.vfa_ir.specs.declared.functions.Lines.{Lines}
 use Rattle.vfa_ir.specs.declared.reasons.Kind.{Kind}
 use Rattle.vfa_ir.specs.declared.reasons.Outside.{Outside}
-use Rattle.vfa_ir.specs.declared.syntax.Transfer.{Transfer}
+use Rattle.vfa_ir.specs.declared.syntax.TerminatorKind.{TerminatorKind}
 use Rattle.vfa_ir.specs.declared.tokens.Token.{Token}
 use Rattle.vfa_ir.specs.Grammar.{FitsSentence}
 use Rattle.vfa_ir.specs.Lexemes.{Lexeme}
@@ -47,15 +47,15 @@ pub record Fit (f : Function) : Type 0 where
   pub reads : Reads text f lines
 
 -- The limits of the profile: parameters and results, then blocks, then the cases of each switch.
-abbrev pub cases_of : Transfer → ℕ
-cases_of (Transfer.Switch _ _ _ cases) = length cases
+abbrev pub cases_of : TerminatorKind → ℕ
+cases_of (TerminatorKind.Switch _ _ _ cases) = length cases
 cases_of _ = 0
 
 abbrev pub too_many : Sentence → Option Kind
 too_many s =
     if nat_lt 4096 (length (value_names s)) then Some Kind.Names
     else if nat_lt 1024 (length s.blocks) then Some Kind.Blocks
-    else if list_any (λ b. nat_lt 1024 (cases_of b.terminator.transfer)) s.blocks then Some Kind.Cases
+    else if list_any (λ b. nat_lt 1024 (cases_of b.terminator.kind)) s.blocks then Some Kind.Cases
     else None
 
 -- some sentence begins with these lexemes

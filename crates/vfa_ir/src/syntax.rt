@@ -10,7 +10,7 @@ use crate::operations::{Bin, Cast, Fun1, Fun2, Over, Pred};
 pub enum Literal {
     /// `true` or `false`.
     Boolean(bool),
-    /// The digits, perhaps behind a `-`, as written.
+    /// The digits, perhaps after a `-`, as written.
     Number(Name),
 }
 
@@ -25,12 +25,12 @@ pub enum Written {
     Poison,
 }
 
-/// Metadata behind an instruction, as `, !prof !7`.
+/// Metadata after an instruction, as `, !prof !7`.
 #[derive(Drop)]
 pub struct Attachment {
-    /// The word behind the first `!`.
+    /// The word after the first `!`.
     pub kind: Name,
-    /// The digits behind the second `!`.
+    /// The digits after the second `!`.
     pub node: Name,
 }
 
@@ -54,15 +54,6 @@ pub struct Incoming {
     pub block: Name,
 }
 
-/// What stands behind a comma of a `phi`.
-#[derive(Drop)]
-pub enum PhiPart {
-    /// A further operand.
-    Entry(Incoming),
-    /// Metadata.
-    Attached(Attachment),
-}
-
 /// A `phi`.
 #[derive(Drop)]
 pub struct PhiNode {
@@ -70,19 +61,30 @@ pub struct PhiNode {
     pub result: Name,
     /// The width of its type.
     pub width: u32,
-    /// The first operand.
-    pub first: Incoming,
-    /// The other operands, and the metadata behind them.
-    pub parts: Items<PhiPart>,
+    /// The operands, of which there is at least one.
+    pub entries: Items<Incoming>,
+    /// The metadata after them.
+    pub attached: Items<Attachment>,
 }
 
-/// What a call has besides callee and arguments.
+/// What a call has besides the types, callee and arguments.
 #[derive(Drop)]
 pub struct CallWords {
     /// `tail` or `notail`, where one stands before `call`.
     pub marker: Option<Name>,
-    /// The digits of the attribute groups behind the arguments, as 4 of `#4`.
+    /// The digits of the attribute groups after the arguments, as 4 of `#4`.
     pub groups: Items<Name>,
+}
+
+/// An argument of a call, as `i8 noundef %x`.
+#[derive(Drop)]
+pub struct Argument {
+    /// The width of its type.
+    pub width: u32,
+    /// Its attributes.
+    pub words: Items<Name>,
+    /// The value that is passed.
+    pub value: Written,
 }
 
 /// What an instruction computes.
@@ -103,6 +105,8 @@ pub enum Operation {
     },
     /// `icmp`
     Compare {
+        /// Whether `samesign` stands before the predicate.
+        samesign: bool,
         /// The predicate.
         pred: Pred,
         /// The width of its operands.
@@ -127,6 +131,8 @@ pub enum Operation {
     Convert {
         /// The conversion.
         cast: Cast,
+        /// Its flags, as written.
+        flags: Items<Name>,
         /// The width of its operand.
         from: u32,
         /// The operand.
@@ -173,7 +179,7 @@ pub enum Operation {
         width: u32,
         /// The first argument.
         a: Written,
-        /// The literal of type `i1` behind it; `llvm.ctpop` alone has none.
+        /// The literal of type `i1` after it; `llvm.ctpop` alone has none.
         strict: Option<Literal>,
     },
     /// A call of an intrinsic whose result is a pair.
@@ -196,16 +202,29 @@ pub enum Operation {
         /// What is assumed.
         c: Written,
     },
+    /// A call of a function that is none of the intrinsics above.
+    Call {
+        /// The words before `call` and after the arguments.
+        call: CallWords,
+        /// The words between `call` and the type of the result.
+        words: Items<Name>,
+        /// The width of the result; none for `void`.
+        width: Option<u32>,
+        /// The name of the function.
+        callee: Name,
+        /// The arguments.
+        arguments: Items<Argument>,
+    },
 }
 
 /// An instruction that is no phi and no terminator.
 #[derive(Drop)]
 pub struct Instruction {
-    /// The name that it defines; none for a call of `llvm.assume` alone.
+    /// The name that it defines; none for `llvm.assume` and for a call of `void` alone.
     pub result: Option<Name>,
     /// What it computes.
     pub operation: Operation,
-    /// The metadata behind it.
+    /// The metadata after it.
     pub attached: Items<Attachment>,
 }
 
@@ -218,9 +237,9 @@ pub struct SwitchCase {
     pub block: Name,
 }
 
-/// Where control goes from a block.
+/// The terminators: where control goes from a block.
 #[derive(Drop)]
-pub enum Transfer {
+pub enum TerminatorKind {
     /// `ret`
     Return {
         /// The width of its type.
@@ -258,18 +277,9 @@ pub enum Transfer {
 #[derive(Drop)]
 pub struct Terminator {
     /// Where control goes.
-    pub transfer: Transfer,
-    /// The metadata behind it.
+    pub kind: TerminatorKind,
+    /// The metadata after it.
     pub attached: Items<Attachment>,
-}
-
-/// A line of a block before its terminator.
-#[derive(Drop)]
-pub enum Line {
-    /// A phi.
-    Phi(PhiNode),
-    /// Another instruction.
-    Plain(Instruction),
 }
 
 /// A block.
@@ -277,8 +287,10 @@ pub enum Line {
 pub struct BasicBlock {
     /// Its label; it may lack in the first block alone.
     pub label: Option<Name>,
-    /// Its phis, and its other instructions behind them.
-    pub lines: Items<Line>,
+    /// Its phis.
+    pub phis: Items<PhiNode>,
+    /// Its other instructions.
+    pub instructions: Items<Instruction>,
     /// Its terminator.
     pub terminator: Terminator,
 }

@@ -31,6 +31,7 @@ fn masked(alloc: Global) -> Result<Function, AllocError> {
                 nuw: false,
                 nsw: false,
                 exact: false,
+                disjoint: false,
             },
             width: 8,
             a: Operand::Value(ValueId(0)),

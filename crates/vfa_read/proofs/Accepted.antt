@@ -1,8 +1,6 @@
 -- What the function of a tree says of the text.
 use Rattle.std.proofs.Common.{◌≡◌, ◌+◌, ◌-◌, ℕ, suc, List, ◌++◌, length, map, take, drop, None, Result, Ok, Err, IfErr, IsErrAnd, ◌⊎◌, inl, inr, refl, sym, ap, ◌∙◌, subst, arith, length-append}
-use Rattle.std.proofs.lemmas.List.{drop-drop, drop-map}
 use Rattle.vfa_ir.specs.declared.functions.Function.{Function}
-use Rattle.vfa_ir.specs.declared.functions.Lines.{Lines}
 use Rattle.vfa_ir.specs.declared.reasons.Outside.{Outside}
 use Rattle.vfa_ir.specs.declared.syntax.BasicBlock.{BasicBlock}
 use Rattle.vfa_ir.specs.declared.syntax.Parameter.{Parameter}
@@ -16,14 +14,13 @@ use Rattle.vfa_ir.specs.TextLines.{block_lines}
 use Rattle.vfa_ir.specs.TokenLexemes.{bytes_between, lexemes}
 use Rattle.vfa_read.specs.declared.sentences.FunctionTree.{FunctionTree}
 use Rattle.vfa_read.specs.Resolving.{tree, IsDuplicate, IsUnknown}
-use Rattle.vfa_read.specs.Trees.{IsTree, between, sentence_of}
+use Rattle.vfa_read.specs.Trees.{HasItsLines, IsTree, between, sentence_of}
 
--- what is known of the function of parts of a tree, and of its lines
-abbrev Parts : ℕ → List ℕ → List Lexeme → List ℕ → Function → Lines → List (List ℕ) → List Parameter → List BasicBlock → List Token → Type 0
-Parts width name lexemes tail f places lead ps bs rest =
+-- what is known of the function of parts of a tree
+abbrev Parts : ℕ → List ℕ → List Lexeme → List ℕ → Function → List (List ℕ) → List Parameter → List BasicBlock → Type 0
+Parts width name lexemes tail f lead ps bs =
     (duplicate_of (tree ps bs) ≡ None) × (unknown_of (tree ps bs) ≡ None)
     × (f ≡ function_of (record { lead = lead; width = width; name = name; parameters = ps; tail = lexemes; blocks = bs }) tail)
-    × (places ≡ record { of = block_lines bs (drop 1 (map (λ t. t.line) rest)) })
 
 -- why parts of a tree have no function
 abbrev Refuses : List Parameter → List BasicBlock → Outside → Type 0
@@ -34,11 +31,11 @@ if_error P e (Ok x) h p = elim h [ ]
 if_error P e (Err y) h p = subst P (sym h) p
 
 module _ (text : List ℕ) (tokens : List Token) (t : FunctionTree) (is : IsTree (lexemes text tokens) t)
-    (kept : too_many (tree t.header.parameters t.blocks) ≡ None) where
-  accepted : (tail : List ℕ) (f : Function) (places : Lines) → duplicate_of (tree t.header.parameters t.blocks) ≡ None → unknown_of (tree t.header.parameters t.blocks) ≡ None
+    (kept : too_many (tree t.header.parameters t.blocks) ≡ None) (lines : HasItsLines (map (λ t. t.line) tokens) t) where
+  accepted : (tail : List ℕ) (f : Function) → duplicate_of (tree t.header.parameters t.blocks) ≡ None → unknown_of (tree t.header.parameters t.blocks) ≡ None
       → tail ≡ bytes_between text (take (t.tail_end - t.tail_start) (drop t.tail_start tokens)) → f ≡ function_of (sentence_of (lexemes text tokens) t) tail
-      → places ≡ record { of = block_lines t.blocks (drop 1 (map (λ t. t.line) (drop t.tail_end tokens))) } → IsAccepted text tokens f places
-  accepted tail f places distinct known bytes function lines_are =
+      → IsAccepted text tokens f (record { of = t.lines })
+  accepted tail f distinct known bytes function =
       let s = sentence_of (lexemes text tokens) t in
       let start : t.tail_start ≡ length (header s) = is.start in
       let end : t.tail_start + length s.tail ≡ t.tail_end = is.tail in
@@ -46,9 +43,7 @@ module _ (text : List ℕ) (tokens : List Token) (t : FunctionTree) (is : IsTree
       let tail_is : tail_bytes text tokens s ≡ tail =
       ap (λ n. bytes_between text (take n (drop (length (header s)) tokens))) size
       ∙ ap (λ n. bytes_between text (take (t.tail_end - t.tail_start) (drop n tokens))) (sym start) ∙ sym bytes in
-      let body : suc (length (header s ++ s.tail)) ≡ t.tail_end + 1 = omega (arith, start, end, length-append (header s) s.tail) in
-      let rest : drop (suc (length (header s ++ s.tail))) (map (λ t. t.line) tokens) ≡ drop 1 (map (λ t. t.line) (drop t.tail_end tokens)) =
-      ap (λ n. drop n (map (λ t. t.line) tokens)) body ∙ sym (drop-drop 1 t.tail_end (map (λ t. t.line) tokens)) ∙ ap (drop 1) (drop-map (λ t. t.line) t.tail_end tokens) in
+      let body : suc (length (header s ++ s.tail)) ≡ suc t.tail_end = omega (arith, start, end, length-append (header s) s.tail) in
       record {
         reads = record {
           sentence = s;
@@ -56,7 +51,7 @@ module _ (text : List ℕ) (tokens : List Token) (t : FunctionTree) (is : IsTree
           distinct = distinct;
           known = known;
           function = ap (function_of s) tail_is ∙ sym function;
-          places = ap (λ z. record { of = block_lines t.blocks z }) rest ∙ sym lines_are;
+          places = ap (λ n. record { of = block_lines t.blocks (drop n (map (λ t. t.line) tokens)) }) body ∙ ap (λ z. record { of = z }) (sym lines);
         };
         kept = kept;
       }
@@ -78,20 +73,19 @@ module _ (text : List ℕ) (tokens : List Token) (t : FunctionTree) (is : IsTree
   refused (Outside.Undefined name block) (inl d) = absurd d
   refused (Outside.Undefined name block) (inr u) = absurd u.1
 
-  pub accepted_parts : (tail : List ℕ) (f : Function) (places : Lines) (lead : List (List ℕ)) (ps : List Parameter) (bs : List BasicBlock) (rest : List Token)
-      → lead ≡ t.header.lead → ps ≡ t.header.parameters → bs ≡ t.blocks → rest ≡ drop t.tail_end tokens
+  pub accepted_parts : (tail : List ℕ) (f : Function) (lead : List (List ℕ)) (ps : List Parameter) (bs : List BasicBlock)
+      → lead ≡ t.header.lead → ps ≡ t.header.parameters → bs ≡ t.blocks
       → tail ≡ bytes_between text (take (t.tail_end - t.tail_start) (drop t.tail_start tokens))
       → duplicate_of (tree ps bs) ≡ None → unknown_of (tree ps bs) ≡ None
       → f ≡ function_of (record { lead = lead; width = t.header.width; name = t.header.name; parameters = ps; tail = between t.tail_start t.tail_end (lexemes text tokens); blocks = bs }) tail
-      → places ≡ record { of = block_lines bs (drop 1 (map (λ t. t.line) rest)) } → IsAccepted text tokens f places
-  accepted_parts tail f places lead ps bs rest l p b r bytes distinct known function lines_are =
-      let Known = Parts t.header.width t.header.name (between t.tail_start t.tail_end (lexemes text tokens)) tail f places in
-      let k : Known t.header.lead t.header.parameters t.blocks (drop t.tail_end tokens) =
-      subst (λ z. Known z t.header.parameters t.blocks (drop t.tail_end tokens)) l
-      (subst (λ z. Known lead z t.blocks (drop t.tail_end tokens)) p
-      (subst (λ z. Known lead ps z (drop t.tail_end tokens)) b
-      (subst (λ z. Known lead ps bs z) r (distinct, known, function, lines_are)))) in
-      accepted tail f places k.0 k.1 bytes k.2 k.3
+      → IsAccepted text tokens f (record { of = t.lines })
+  accepted_parts tail f lead ps bs l p b bytes distinct known function =
+      let Known = Parts t.header.width t.header.name (between t.tail_start t.tail_end (lexemes text tokens)) tail f in
+      let k : Known t.header.lead t.header.parameters t.blocks =
+      subst (λ z. Known z t.header.parameters t.blocks) l
+      (subst (λ z. Known lead z t.blocks) p
+      (subst (λ z. Known lead ps z) b (distinct, known, function))) in
+      accepted tail f k.0 k.1 bytes k.2
 
   pub refused_parts : (e : Outside) (ps : List Parameter) (bs : List BasicBlock) → ps ≡ t.header.parameters → bs ≡ t.blocks → Refuses ps bs e → (e ≡ Outside.Memory) ⊎ IsReason text tokens e
   refused_parts e ps bs p b r = refused e (subst (λ z. Refuses z t.blocks e) p (subst (λ z. Refuses ps z e) b r))

@@ -1,4 +1,4 @@
--- Reading a binary operation with its flags is exact.
+-- Reading flags, and a binary operation with its flags, is exact.
 use Rattle.std.proofs.Common.{◌≡◌, ℕ, Bool, true, false, not, cond, List, [], ◌∷◌, ◌++◌, map, ◌⊎◌, ⊎_elim, bytes_eq, codes, refl, sym, ap, ◌∙◌}
 use Rattle.vfa_ir.specs.declared.operations.Bin.{Bin}
 use Rattle.vfa_ir.specs.Lexemes.{Lexeme, word, mark}
@@ -74,7 +74,7 @@ some_wrap_exact = choose_exact (is_word (codes "nuw")) (flag_then (codes "nuw") 
 abbrev pub WrapFits : List (List ℕ) → Type 0
 WrapFits ws = (FirstWrap ws ⊎ SecondWrap ws) ⊎ (ws ≡ [])
 
-wrap_exact : Exact wrap_flags (map word) WrapFits wrap_follow
+pub wrap_exact : Exact wrap_flags (map word) WrapFits wrap_follow
 wrap_exact = optional_exact is_wrap_flag (choose (is_word (codes "nuw")) (flag_then (codes "nuw") (codes "nsw")) (flag_then (codes "nsw") (codes "nuw"))) [] (map word) (λ ws. FirstWrap ws ⊎ SecondWrap ws) wrap_follow
     some_wrap_exact refl refl
     (λ ws rest f. ⊎_elim
@@ -92,6 +92,7 @@ flag_follow Bin.Udiv = word_follow (codes "exact")
 flag_follow Bin.Sdiv = word_follow (codes "exact")
 flag_follow Bin.Lshr = word_follow (codes "exact")
 flag_follow Bin.Ashr = word_follow (codes "exact")
+flag_follow Bin.Or = word_follow (codes "disjoint")
 flag_follow _ = λ _ _. true
 
 abbrev pub FlagsFit : Bin → List (List ℕ) → Type 0
@@ -103,9 +104,10 @@ FlagsFit Bin.Udiv = OptionalFits (codes "exact")
 FlagsFit Bin.Sdiv = OptionalFits (codes "exact")
 FlagsFit Bin.Lshr = OptionalFits (codes "exact")
 FlagsFit Bin.Ashr = OptionalFits (codes "exact")
+FlagsFit Bin.Or = OptionalFits (codes "disjoint")
 FlagsFit _ = λ ws. ws ≡ []
 
-no_flags_exact : Exact (nothing []) (map word) (λ ws. ws ≡ []) (λ _ _. true)
+pub no_flags_exact : Exact (nothing []) (map word) (λ ws. ws ≡ []) (λ _ _. true)
 no_flags_exact = spelled_exact (nothing []) (λ _. []) (map word) (λ ws. ws ≡ []) anything (nothing_exact []) (λ ws e. ap (map word) (sym e))
 
 flags_exact : (bin : Bin) → Exact (flags bin) (map word) (FlagsFit bin) (flag_follow bin)
@@ -120,12 +122,12 @@ flags_exact Bin.Ashr = optional_word_exact (codes "exact")
 flags_exact Bin.Urem = no_flags_exact
 flags_exact Bin.Srem = no_flags_exact
 flags_exact Bin.And = no_flags_exact
-flags_exact Bin.Or = no_flags_exact
+flags_exact Bin.Or = optional_word_exact (codes "disjoint")
 flags_exact Bin.Xor = no_flags_exact
 
 -- a type may follow flags
 
-wrap_type : (ws : List (List ℕ)) (w : ℕ) → wrap_follow ws (spell.type w) ≡ true
+pub wrap_type : (ws : List (List ℕ)) (w : ℕ) → wrap_follow ws (spell.type w) ≡ true
 wrap_type [] w = refl
 wrap_type (x ∷ []) w = go (bytes_eq x (codes "nuw"))
   where
@@ -134,23 +136,23 @@ wrap_type (x ∷ []) w = go (bytes_eq x (codes "nuw"))
     go false = refl
 wrap_type (x ∷ y ∷ ys) w = refl
 
-exact_type : (ws : List (List ℕ)) (w : ℕ) → word_follow (codes "exact") ws (spell.type w) ≡ true
-exact_type [] w = refl
-exact_type (x ∷ xs) w = refl
+pub word_type : (text : List ℕ) → ((w : ℕ) → is_word text (spell.type w) ≡ false) → (ws : List (List ℕ)) (w : ℕ) → word_follow text ws (spell.type w) ≡ true
+word_type text differs [] w = ap not (differs w)
+word_type text differs (x ∷ xs) w = refl
 
 type_follows : (bin : Bin) (ws : List (List ℕ)) (w : ℕ) → flag_follow bin ws (spell.type w) ≡ true
 type_follows Bin.Add ws w = wrap_type ws w
 type_follows Bin.Sub ws w = wrap_type ws w
 type_follows Bin.Mul ws w = wrap_type ws w
 type_follows Bin.Shl ws w = wrap_type ws w
-type_follows Bin.Udiv ws w = exact_type ws w
-type_follows Bin.Sdiv ws w = exact_type ws w
-type_follows Bin.Lshr ws w = exact_type ws w
-type_follows Bin.Ashr ws w = exact_type ws w
+type_follows Bin.Udiv ws w = word_type (codes "exact") (λ _. refl) ws w
+type_follows Bin.Sdiv ws w = word_type (codes "exact") (λ _. refl) ws w
+type_follows Bin.Lshr ws w = word_type (codes "exact") (λ _. refl) ws w
+type_follows Bin.Ashr ws w = word_type (codes "exact") (λ _. refl) ws w
 type_follows Bin.Urem ws w = refl
 type_follows Bin.Srem ws w = refl
 type_follows Bin.And ws w = refl
-type_follows Bin.Or ws w = refl
+type_follows Bin.Or ws w = word_type (codes "disjoint") (λ _. refl) ws w
 type_follows Bin.Xor ws w = refl
 
 abbrev pub BinaryFits : Bin → List (List ℕ) × (ℕ × Two) → Type 0

@@ -1,24 +1,27 @@
--- Reading a line of a block, and all lines of a block, is exact.
+-- Reading a line of a block is exact.
 use Rattle.std.proofs.Common.{◌≡◌, ℕ, Bool, true, false, List, [], ◌∷◌, ◌++◌, Option, Some, None, ◌⊎◌, inl, inr, ⊎_elim, IsTrue, IfSome, bytes_eq, codes, refl, sym, ap, ◌∙◌, subst, append_assoc}
 use Rattle.std.specs.List.{AllByRecursion}
-use Rattle.std.proofs.lemmas.List.Elements.{recursion_from_All, All-from_recursion}
+use Rattle.std.proofs.lemmas.List.Elements.{All-nil, recursion_from_All, All-from_recursion}
 use Rattle.vfa_ir.specs.declared.operations.Bin.{Bin}
 use Rattle.vfa_ir.specs.declared.operations.Cast.{Cast}
 use Rattle.vfa_ir.specs.declared.syntax.Attachment.{Attachment}
-use Rattle.vfa_ir.specs.declared.syntax.Line.{Line}
+use Rattle.vfa_ir.specs.declared.syntax.CallWords.{CallWords}
+use Rattle.vfa_read.specs.declared.intrinsics.VoidCallee.{VoidCallee}
+use Rattle.vfa_read.specs.declared.lines.Line.{Line}
 use Rattle.vfa_ir.specs.declared.syntax.Operation.{Operation}
 use Rattle.vfa_ir.specs.Lexemes.{Lexeme, local, word, mark}
-use Rattle.vfa_ir.specs.Grammar.{FitsAttachment, FitsPhi, FitsInstruction, FitsOperation}
+use Rattle.vfa_ir.specs.Grammar.{AreWords, FitsAttachment, FitsPhi, FitsInstruction, FitsOperation, FitsResult}
 use Rattle.vfa_ir.specs.Spelling as spell
-use Rattle.vfa_ir.specs.Words.{is_among}
-use Rattle.vfa_read.specs.Productions.{is_word, attachments, phi_of, phi_rest, plain_of, plain_rest, defined_rest, defined_of, defined_line, marker_word, call_marker, assume, assume_of, assumed_of, assume_line, is_call_word, starts_call, line}
+use Rattle.vfa_read.specs.Items as items
+use Rattle.vfa_ir.specs.Words.{call_words, is_among}
+use Rattle.vfa_read.specs.Productions.{is_word, attachments, assume_of, other_of, phi_of, phi_rest, plain_of, plain_rest, defined_rest, defined_of, defined_line, marker_word, call_marker, is_call_word, starts_call, line, void_call, void_line, void_line_of, void_of, words_of}
 use Rattle.vfa_read.specs.Readers.{one, after, made, skip, ended, next_passes}
 use Rattle.vfa_read.specs.Tables.{the_mark, the_word, local_name}
-use Rattle.vfa_read.proofs.CallReaders.{behind_call, AssumeFits, assume_exact}
+use Rattle.vfa_read.proofs.CallReaders.{VoidCalleeFits, VoidFits, VoidStands, void_exact, words_spelling}
 use Rattle.vfa_read.proofs.Exact.{Exact, Made, anything, may_anything, after_exact, made_exact, choose_exact, skip_exact, ended_exact, fits_exact, spelled_exact}
 use Rattle.vfa_read.proofs.LeafReaders.{mark_exact, word_exact, local_exact}
-use Rattle.vfa_read.proofs.LineReaders.{PhiBodyFits, behind_phi, phi_rest_exact, PlainFits, behind_equals, plain_rest_exact, line_follow, plain_follow, AttachedFit, attached_op_exact}
-use Rattle.vfa_read.proofs.OperationReaders.{IsDefining, two_words, among_first, among_second}
+use Rattle.vfa_read.proofs.LineReaders.{PhiBodyFits, behind_phi, phi_from, phi_to, phi_rest_exact, PlainFits, behind_equals, plain_rest_exact, line_follow, plain_follow, AttachedFit, attached_op_exact}
+use Rattle.vfa_read.proofs.OperationReaders.{IsDefining, MarkedSpelled, among_first, among_second, other_spelled, two_words}
 
 -- no operation begins with `phi`
 
@@ -34,29 +37,13 @@ call_no_phi m ls rest f = ap (next_passes (is_word (codes "phi"))) (append_assoc
 
 no_phi : (op : Operation) (rest : List Lexeme) → FitsOperation op → next_passes (is_word (codes "phi")) (spell.operation op ++ rest) ≡ false
 no_phi (Operation.Binary Bin.Add _ _ _ _) rest f = refl
-no_phi (Operation.Binary Bin.Sub _ _ _ _) rest f = refl
-no_phi (Operation.Binary Bin.Mul _ _ _ _) rest f = refl
-no_phi (Operation.Binary Bin.Shl _ _ _ _) rest f = refl
-no_phi (Operation.Binary Bin.Udiv _ _ _ _) rest f = refl
-no_phi (Operation.Binary Bin.Sdiv _ _ _ _) rest f = refl
-no_phi (Operation.Binary Bin.Lshr _ _ _ _) rest f = refl
-no_phi (Operation.Binary Bin.Ashr _ _ _ _) rest f = refl
-no_phi (Operation.Binary Bin.Urem _ _ _ _) rest f = refl
-no_phi (Operation.Binary Bin.Srem _ _ _ _) rest f = refl
-no_phi (Operation.Binary Bin.And _ _ _ _) rest f = refl
-no_phi (Operation.Binary Bin.Or _ _ _ _) rest f = refl
-no_phi (Operation.Binary Bin.Xor _ _ _ _) rest f = refl
-no_phi (Operation.Compare _ _ _ _) rest f = refl
-no_phi (Operation.Select _ _ _ _) rest f = refl
-no_phi (Operation.Convert Cast.Zext _ _ _) rest f = refl
-no_phi (Operation.Convert Cast.Sext _ _ _) rest f = refl
-no_phi (Operation.Convert Cast.Trunc _ _ _) rest f = refl
-no_phi (Operation.Freeze _ _) rest f = refl
-no_phi (Operation.Extract _ _ _) rest f = refl
+no_phi (Operation.Convert Cast.Zext _ _ _ _) rest f = refl
 no_phi (Operation.Two words _ _ _ _) rest f = call_no_phi words.marker _ rest f.0.marker
 no_phi (Operation.One words _ _ _ _) rest f = call_no_phi words.marker _ rest f.0.marker
 no_phi (Operation.Over words _ _ _ _) rest f = call_no_phi words.marker _ rest f.0.marker
 no_phi (Operation.Assume words _) rest f = call_no_phi words.marker _ rest f.0.marker
+no_phi (Operation.Call words _ _ _ _) rest f = call_no_phi words.marker _ rest f.0.marker
+no_phi _ rest f = refl
 
 -- what stands behind `%name =`
 
@@ -89,15 +76,15 @@ abbrev DefinedFits : Bool → List ℕ × Line → Type 0
 DefinedFits phis p = Unit {0} × RestFits phis p.0 p.1
 
 abbrev LineSpelled : List ℕ → Line → Type 0
-LineSpelled r l = spell.line l ≡ local r ∷ mark 61 ∷ behind_equals l
+LineSpelled r l = items.line l ≡ local r ∷ mark 61 ∷ behind_equals l
 
 rest_spelled : (phis : Bool) (r : List ℕ) (l : Line) → RestFits phis r l → LineSpelled r l
 rest_spelled true r l f = ⊎_elim (λ m. subst (LineSpelled r) m.is refl) (λ m. subst (LineSpelled r) m.is refl) f
 rest_spelled false r l m = subst (LineSpelled r) m.is refl
 
-defined_exact : (phis : Bool) → Exact (defined_line phis) spell.line (Made defined_of (DefinedFits phis)) line_follow
+defined_exact : (phis : Bool) → Exact (defined_line phis) items.line (Made defined_of (DefinedFits phis)) line_follow
 unfolding defined_line
-defined_exact phis = made_exact defined_of (after (one local_name) (λ r. skip (the_mark 61) (defined_rest phis r))) (λ p. local p.0 ∷ mark 61 ∷ behind_equals p.1) (DefinedFits phis) (λ p. line_follow p.1) spell.line line_follow
+defined_exact phis = made_exact defined_of (after (one local_name) (λ r. skip (the_mark 61) (defined_rest phis r))) (λ p. local p.0 ∷ mark 61 ∷ behind_equals p.1) (DefinedFits phis) (λ p. line_follow p.1) items.line line_follow
     (after_exact (one local_name) (λ r. skip (the_mark 61) (defined_rest phis r)) (λ r. local r ∷ []) (λ _. Unit {0}) anything (λ _ l. mark 61 ∷ behind_equals l) (λ r l. RestFits phis r l) (λ _ l. line_follow l)
     local_exact (λ r _. skip_exact (the_mark 61) (mark 61) (defined_rest phis r) behind_equals (RestFits phis r) line_follow (mark_exact 61) (defined_rest_exact phis r))
     (λ a b rest f g m. refl))
@@ -155,52 +142,59 @@ marker_from : (m : Option (List ℕ)) → MarkerFits m → Marked m
 marker_from None f = inl (record { from = tt; fits = tt; is = refl })
 marker_from (Some t) f = inr (record { from = t; fits = ⊎_elim (λ e. inl (record { from = tt; fits = tt; is = sym e })) (λ e. inr (record { from = tt; fits = tt; is = sym e })) (two_words t (codes "tail") (codes "notail") f); is = refl })
 
--- a call of `llvm.assume`
+-- a call without a result
 
-abbrev Assumed : Type 0
-Assumed = Option (List ℕ) × (Operation × List Attachment)
+abbrev Voided : Type 0
+Voided = Option (List ℕ) × (Operation × List Attachment)
 
-abbrev AssumedFits : Assumed → Type 0
-AssumedFits p = Marked p.0 × (Made (assume_of p.0) AssumeFits p.1.0 × AttachedFit p.1.1)
+abbrev VoidedFits : Voided → Type 0
+VoidedFits p = Marked p.0 × (Made void_of (VoidFits p.0) p.1.0 × AttachedFit p.1.1)
 
-assumed_spelled : (p : Assumed) → AssumedFits p → spell.line (assumed_of p) ≡ marker_spelling p.0 ++ (behind_call p.1.0 ++ spell.attachments p.1.1)
-assumed_spelled p f =
-    let m = f.1.0 in
+callee_marked : (m : Option (List ℕ)) (words : List (List ℕ)) (c : VoidCallee) (op : Operation) → VoidCalleeFits m words c op → MarkedSpelled m op
+callee_marked m words VoidCallee.Assume op f = subst (MarkedSpelled m) f.is refl
+callee_marked m words (VoidCallee.Other name) op f = subst (MarkedSpelled m) f.is (other_spelled (words_of m f.from.1) words None name f.from.0)
+
+void_marked : (m : Option (List ℕ)) (op : Operation) → Made void_of (VoidFits m) op → MarkedSpelled m op
+void_marked m op f = subst (MarkedSpelled m) f.is (callee_marked m f.from.0 f.from.1.0 f.from.1.1 f.fits.1.1)
+
+voided_spelled : (p : Voided) → VoidedFits p → items.line (void_line_of p) ≡ marker_spelling p.0 ++ (words_spelling p.1.0 ++ spell.attachments p.1.1)
+voided_spelled p f =
     let xs = spell.attachments p.1.1 in
-    subst (λ z. spell.operation z ++ xs ≡ marker_spelling p.0 ++ (behind_call z ++ xs)) m.is
-    (ap (λ z. z ++ xs) (sym (append_assoc (spell.optional_word p.0) (word (codes "call") ∷ []) (behind_call (assume_of p.0 m.from))))
-    ∙ append_assoc (marker_spelling p.0) (behind_call (assume_of p.0 m.from)) xs)
+    let marker = spell.optional_word p.0 in
+    let call : List Lexeme = word (codes "call") ∷ [] in
+    ap (λ z. z ++ xs) (void_marked p.0 p.1.0 f.1.0 ∙ sym (append_assoc marker call (words_spelling p.1.0)))
+    ∙ append_assoc (marker_spelling p.0) (words_spelling p.1.0) xs
 
-assume_line_exact : Exact assume_line spell.line (Made assumed_of AssumedFits) line_follow
-unfolding assume_line
-assume_line_exact = made_exact assumed_of (after call_marker (λ m. after (assume m) (λ _. attachments))) (λ p. marker_spelling p.0 ++ (behind_call p.1.0 ++ spell.attachments p.1.1)) AssumedFits (λ p. plain_follow p.1.0 p.1.1) spell.line line_follow
-    (after_exact call_marker (λ m. after (assume m) (λ _. attachments)) marker_spelling Marked anything (λ _ q. behind_call q.0 ++ spell.attachments q.1) (λ m q. Made (assume_of m) AssumeFits q.0 × AttachedFit q.1) (λ _ q. plain_follow q.0 q.1)
-    call_marker_exact (λ m _. attached_op_exact (assume m) behind_call (Made (assume_of m) AssumeFits) (assume_exact m))
-    (λ a b rest f g m. may_anything a ((behind_call b.0 ++ spell.attachments b.1) ++ rest)))
-    assumed_spelled (λ p f. refl)
+void_line_exact : Exact void_line items.line (Made void_line_of VoidedFits) line_follow
+unfolding void_line
+void_line_exact = made_exact void_line_of (after call_marker (λ m. after (void_call m) (λ _. attachments))) (λ p. marker_spelling p.0 ++ (words_spelling p.1.0 ++ spell.attachments p.1.1)) VoidedFits (λ p. plain_follow p.1.0 p.1.1) items.line line_follow
+    (after_exact call_marker (λ m. after (void_call m) (λ _. attachments)) marker_spelling Marked anything (λ _ q. words_spelling q.0 ++ spell.attachments q.1) (λ m q. Made void_of (VoidFits m) q.0 × AttachedFit q.1) (λ _ q. plain_follow q.0 q.1)
+    call_marker_exact (λ m _. attached_op_exact (void_call m) words_spelling (Made void_of (VoidFits m)) (void_exact m))
+    (λ a b rest f g m. may_anything a ((words_spelling b.0 ++ spell.attachments b.1) ++ rest)))
+    voided_spelled (λ p f. refl)
 
 -- a line
 
 abbrev EitherLine : Bool → Line → Type 0
-EitherLine phis l = Made assumed_of AssumedFits l ⊎ Made defined_of (DefinedFits phis) l
+EitherLine phis l = Made void_line_of VoidedFits l ⊎ Made defined_of (DefinedFits phis) l
 
 pub call_starts : (m : Option (List ℕ)) (rest : List Lexeme) → MarkerFits m → next_passes starts_call (marker_spelling m ++ rest) ≡ true
 call_starts None rest f = refl
 call_starts (Some t) rest f = ⊎_elim (λ e. ap is_call_word e) (λ e. ap is_call_word e) (two_words t (codes "tail") (codes "notail") f)
 
-assumed_starts : (l : Line) (rest : List Lexeme) → Made assumed_of AssumedFits l → next_passes starts_call (spell.line l ++ rest) ≡ true
-assumed_starts l rest m =
+voided_starts : (l : Line) (rest : List Lexeme) → Made void_line_of VoidedFits l → next_passes starts_call (items.line l ++ rest) ≡ true
+voided_starts l rest m =
     let p = m.from in
-    let xs = behind_call p.1.0 ++ spell.attachments p.1.1 in
-    ap (λ z. next_passes starts_call (z ++ rest)) (ap spell.line (sym m.is) ∙ assumed_spelled p m.fits)
+    let xs = words_spelling p.1.0 ++ spell.attachments p.1.1 in
+    ap (λ z. next_passes starts_call (z ++ rest)) (ap items.line (sym m.is) ∙ voided_spelled p m.fits)
     ∙ ap (next_passes starts_call) (append_assoc (marker_spelling p.0) xs rest) ∙ call_starts p.0 (xs ++ rest) (marker_to p.0 m.fits.0)
 
-either_exact : (phis : Bool) → Exact (line phis) spell.line (EitherLine phis) line_follow
+either_exact : (phis : Bool) → Exact (line phis) items.line (EitherLine phis) line_follow
 unfolding line
-either_exact phis = choose_exact starts_call assume_line (defined_line phis) spell.line (Made assumed_of AssumedFits) (Made defined_of (DefinedFits phis)) line_follow
-    assume_line_exact (defined_exact phis)
-    (λ l rest m k. assumed_starts l rest m)
-    (λ l rest m k. ap (λ z. next_passes starts_call (z ++ rest)) (ap spell.line (sym m.is) ∙ rest_spelled phis m.from.0 m.from.1 m.fits.1))
+either_exact phis = choose_exact starts_call void_line (defined_line phis) items.line (Made void_line_of VoidedFits) (Made defined_of (DefinedFits phis)) line_follow
+    void_line_exact (defined_exact phis)
+    (λ l rest m k. voided_starts l rest m)
+    (λ l rest m k. ap (λ z. next_passes starts_call (z ++ rest)) (ap items.line (sym m.is) ∙ rest_spelled phis m.from.0 m.from.1 m.fits.1))
 
 -- what the grammar asks of a line
 
@@ -216,20 +210,17 @@ pub attached_from : (xs : List Attachment) → AllByRecursion FitsAttachment xs 
 attached_from [] f = tt
 attached_from (x ∷ xs) f = (f.0, attached_from xs f.1)
 
+plain_fits : (r : Option (List ℕ)) (op : Operation) (xs : List Attachment) → FitsResult op r → FitsOperation op → AttachedFit xs → LineFits false (plain_of r (op, xs))
+plain_fits r op xs f g h = record { result = f; operation = g; attached = All-from_recursion FitsAttachment xs (attached_to xs h) }
+
+defined_result : (r : List ℕ) (op : Operation) → IsDefining op → FitsResult op (Some r)
+defined_result r (Operation.Assume c x) f = absurd f
+defined_result r (Operation.Call c attributes None name xs) f = absurd f
+defined_result r _ f = tt
+
 defined_plain : (r : List ℕ) (l : Line) → Made (plain_of (Some r)) PlainFits l → LineFits false l
-defined_plain r l m = subst (LineFits false) m.is (result_fits m.from.0 m.from.1 m.fits)
-  where
-    result_fits : (op : Operation) (xs : List Attachment) → PlainFits (op, xs) → LineFits false (plain_of (Some r) (op, xs))
-    result_fits (Operation.Binary b fl w x y) xs f = record { result = tt; operation = f.0.0; attached = All-from_recursion FitsAttachment xs (attached_to xs f.1) }
-    result_fits (Operation.Compare p w x y) xs f = record { result = tt; operation = f.0.0; attached = All-from_recursion FitsAttachment xs (attached_to xs f.1) }
-    result_fits (Operation.Select c w x y) xs f = record { result = tt; operation = f.0.0; attached = All-from_recursion FitsAttachment xs (attached_to xs f.1) }
-    result_fits (Operation.Convert k v x w) xs f = record { result = tt; operation = f.0.0; attached = All-from_recursion FitsAttachment xs (attached_to xs f.1) }
-    result_fits (Operation.Freeze w x) xs f = record { result = tt; operation = f.0.0; attached = All-from_recursion FitsAttachment xs (attached_to xs f.1) }
-    result_fits (Operation.Extract w x i) xs f = record { result = tt; operation = f.0.0; attached = All-from_recursion FitsAttachment xs (attached_to xs f.1) }
-    result_fits (Operation.Two c k w x y) xs f = record { result = tt; operation = f.0.0; attached = All-from_recursion FitsAttachment xs (attached_to xs f.1) }
-    result_fits (Operation.One c k w x s) xs f = record { result = tt; operation = f.0.0; attached = All-from_recursion FitsAttachment xs (attached_to xs f.1) }
-    result_fits (Operation.Over c k w x y) xs f = record { result = tt; operation = f.0.0; attached = All-from_recursion FitsAttachment xs (attached_to xs f.1) }
-    result_fits (Operation.Assume c x) xs f = absurd f.0.1
+defined_plain r l m =
+    subst (LineFits false) m.is (plain_fits (Some r) m.from.0 m.from.1 (defined_result r m.from.0 m.fits.0.1) m.fits.0.0 m.fits.1)
 
 plain_any : (phis : Bool) (l : Line) → LineFits false l → LineFits phis l
 plain_any true (Line.Phi p) f = let no = f.0 in cc
@@ -237,21 +228,29 @@ plain_any false (Line.Phi p) f = f
 plain_any phis (Line.Plain i) f = f
 
 phi_line : (r : List ℕ) (l : Line) → Made (phi_of r) PhiBodyFits l → LineFits true l
-phi_line r l m = subst (LineFits true) m.is (refl, record { width = m.fits.0; first = m.fits.1.0; parts = m.fits.1.1 })
+phi_line r l m = subst (LineFits true) m.is (refl, phi_to r m.from m.fits)
 
 defined_to : (phis : Bool) (r : List ℕ) (l : Line) → RestFits phis r l → LineFits phis l
 defined_to true r l f = ⊎_elim (λ m. phi_line r l m) (λ m. plain_any true l (defined_plain r l m)) f
 defined_to false r l m = defined_plain r l m
 
-assumed_to : (l : Line) → Made assumed_of AssumedFits l → LineFits false l
-assumed_to l m =
+void_callee_to : (m : Option (List ℕ)) (words : List (List ℕ)) (c : VoidCallee) (op : Operation) (xs : List Attachment) → MarkerFits m → AreWords call_words words →
+    VoidStands words c → VoidCalleeFits m words c op → AttachedFit xs → LineFits false (plain_of None (op, xs))
+void_callee_to m words VoidCallee.Assume op xs k a s f h =
+    subst (λ z. LineFits false (plain_of None (z, xs))) f.is (plain_fits None (assume_of m f.from) xs tt (record { marker = k }, f.fits.0) h)
+void_callee_to m words (VoidCallee.Other name) op xs k a s f h =
+    subst (λ z. LineFits false (plain_of None (z, xs))) f.is
+    (plain_fits None (other_of m words None name f.from) xs tt (record { marker = k }, record { attributes = a; result = tt; callee = s; passed = f.fits.0 }) h)
+
+voided_to : (l : Line) → Made void_line_of VoidedFits l → LineFits false l
+voided_to l m =
     let p = m.from in
-    let a = m.fits.1.0 in
-    subst (LineFits false) m.is (subst (λ z. LineFits false (plain_of None (z, p.1.1))) a.is
-    (record { result = tt; operation = (record { marker = marker_to p.0 m.fits.0 }, a.fits.0); attached = All-from_recursion FitsAttachment p.1.1 (attached_to p.1.1 m.fits.1.1) }))
+    let v = m.fits.1.0 in
+    subst (LineFits false) m.is (subst (λ z. LineFits false (plain_of None (z, p.1.1))) v.is
+    (void_callee_to p.0 v.from.0 v.from.1.0 v.from.1.1 p.1.1 (marker_to p.0 m.fits.0) v.fits.0 v.fits.1.0 v.fits.1.1 m.fits.1.1))
 
 line_to : (phis : Bool) (l : Line) → EitherLine phis l → LineFits phis l
-line_to phis l f = ⊎_elim (λ m. plain_any phis l (assumed_to l m)) (λ m. subst (LineFits phis) m.is (defined_to phis m.from.0 m.from.1 m.fits.1)) f
+line_to phis l f = ⊎_elim (λ m. plain_any phis l (voided_to l m)) (λ m. subst (LineFits phis) m.is (defined_to phis m.from.0 m.from.1 m.fits.1)) f
 
 plain_rest_fits : (phis : Bool) (r : List ℕ) (l : Line) → Made (plain_of (Some r)) PlainFits l → RestFits phis r l
 plain_rest_fits true r l m = inr m
@@ -268,40 +267,35 @@ defined_line_fits phis r op xs f d = inr (record {
   is = refl;
 })
 
-by_result : (phis : Bool) (r : Option (List ℕ)) (op : Operation) (xs : List Attachment) → FitsInstruction (record { result = r; operation = op; attached = xs }) → EitherLine phis (plain_of r (op, xs))
-by_result phis (Some r) (Operation.Assume c x) xs f = absurd f.result
-by_result phis None (Operation.Assume c x) xs f = inl (record {
-  from = (c.marker, (Operation.Assume c x, xs));
-  fits = (marker_from c.marker f.operation.0.marker, (record { from = (x, c.groups); fits = (f.operation.1, tt); is = refl }, attached_from xs (recursion_from_All FitsAttachment xs f.attached)));
+void_line_fits : (phis : Bool) (words : CallWords) (ws : List (List ℕ)) (c : VoidCallee) (op : Operation) (xs : List Attachment) → MarkerFits words.marker → AreWords call_words ws →
+    VoidStands ws c → VoidCalleeFits words.marker ws c op → AttachedFit xs → EitherLine phis (plain_of None (op, xs))
+void_line_fits phis words ws c op xs k a s f h = inl (record {
+  from = (words.marker, (op, xs));
+  fits = (marker_from words.marker k, (record { from = (ws, (c, op)); fits = (a, (s, f)); is = refl }, h));
   is = refl;
 })
-by_result phis (Some r) (Operation.Binary b fl w x y) xs f = defined_line_fits phis r (Operation.Binary b fl w x y) xs f tt
-by_result phis (Some r) (Operation.Compare p w x y) xs f = defined_line_fits phis r (Operation.Compare p w x y) xs f tt
-by_result phis (Some r) (Operation.Select c w x y) xs f = defined_line_fits phis r (Operation.Select c w x y) xs f tt
-by_result phis (Some r) (Operation.Convert k v x w) xs f = defined_line_fits phis r (Operation.Convert k v x w) xs f tt
-by_result phis (Some r) (Operation.Freeze w x) xs f = defined_line_fits phis r (Operation.Freeze w x) xs f tt
-by_result phis (Some r) (Operation.Extract w x i) xs f = defined_line_fits phis r (Operation.Extract w x i) xs f tt
-by_result phis (Some r) (Operation.Two c k w x y) xs f = defined_line_fits phis r (Operation.Two c k w x y) xs f tt
-by_result phis (Some r) (Operation.One c k w x s) xs f = defined_line_fits phis r (Operation.One c k w x s) xs f tt
-by_result phis (Some r) (Operation.Over c k w x y) xs f = defined_line_fits phis r (Operation.Over c k w x y) xs f tt
-by_result phis None (Operation.Binary b fl w x y) xs f = absurd f.result
-by_result phis None (Operation.Compare p w x y) xs f = absurd f.result
-by_result phis None (Operation.Select c w x y) xs f = absurd f.result
-by_result phis None (Operation.Convert k v x w) xs f = absurd f.result
-by_result phis None (Operation.Freeze w x) xs f = absurd f.result
-by_result phis None (Operation.Extract w x i) xs f = absurd f.result
-by_result phis None (Operation.Two c k w x y) xs f = absurd f.result
-by_result phis None (Operation.One c k w x s) xs f = absurd f.result
-by_result phis None (Operation.Over c k w x y) xs f = absurd f.result
+
+attached_each : (r : Option (List ℕ)) (op : Operation) (xs : List Attachment) → FitsInstruction (record { result = r; operation = op; attached = xs }) → AttachedFit xs
+attached_each r op xs f = attached_from xs (recursion_from_All FitsAttachment xs f.attached)
+
+by_result : (phis : Bool) (r : Option (List ℕ)) (op : Operation) (xs : List Attachment) → FitsInstruction (record { result = r; operation = op; attached = xs }) → EitherLine phis (plain_of r (op, xs))
+by_result phis (Some r) (Operation.Assume c x) xs f = absurd f.result
+by_result phis None (Operation.Assume c x) xs f = void_line_fits phis c [] VoidCallee.Assume (Operation.Assume c x) xs f.operation.0.marker (All-nil (λ z. IsTrue (is_among z call_words))) refl
+    (record { from = (x, c.groups); fits = (f.operation.1, tt); is = refl }) (attached_each None (Operation.Assume c x) xs f)
+by_result phis (Some r) (Operation.Call c ws None name ys) xs f = absurd f.result
+by_result phis None (Operation.Call c ws None name ys) xs f = void_line_fits phis c ws (VoidCallee.Other name) (Operation.Call c ws None name ys) xs f.operation.0.marker f.operation.1.attributes f.operation.1.callee
+    (record { from = (ys, c.groups); fits = (f.operation.1.passed, tt); is = refl }) (attached_each None (Operation.Call c ws None name ys) xs f)
+by_result phis (Some r) op xs f = defined_line_fits phis r op xs f tt
+by_result phis None op xs f = absurd f.result
 
 line_from : (phis : Bool) (l : Line) → LineFits phis l → EitherLine phis l
 line_from true (Line.Phi p) f = inr (record {
   from = (p.result, Line.Phi p);
-  fits = (tt, inl (record { from = (p.width, (p.first, p.parts)); fits = (f.1.width, (f.1.first, f.1.parts)); is = refl }));
+  fits = (tt, inl (phi_from p.result p.width p.entries p.attached f.1));
   is = refl;
 })
 line_from false (Line.Phi p) f = let no = f.0 in cc
 line_from phis (Line.Plain i) f = by_result phis i.result i.operation i.attached f
 
-pub line_exact : (phis : Bool) → Exact (line phis) spell.line (LineFits phis) line_follow
-line_exact phis = fits_exact (line phis) spell.line (EitherLine phis) (LineFits phis) line_follow (either_exact phis) (line_to phis) (line_from phis)
+pub line_exact : (phis : Bool) → Exact (line phis) items.line (LineFits phis) line_follow
+line_exact phis = fits_exact (line phis) items.line (EitherLine phis) (LineFits phis) line_follow (either_exact phis) (line_to phis) (line_from phis)

@@ -1,25 +1,30 @@
 -- Reading a call, behind the word `call`, is exact.
-use Rattle.std.proofs.Common.{◌≡◌, ℕ, true, false, List, [], ◌∷◌, ◌++◌, map, flat_map, length, ◌<◌, Option, Some, None, Ok, Err, ◌⊎◌, ⊎_elim, bytes_eq, codes, refl, sym, ap, ◌∙◌, subst, append_assoc}
-use Rattle.std.specs.List.{list_all}
+use Rattle.std.proofs.Common.{◌≡◌, ℕ, Bool, true, false, not, cond, IsTrue, List, [], ◌∷◌, ◌++◌, map, find, flat_map, length, ◌<◌, All, option_map, Option, Some, None, Ok, Err, ◌⊎◌, ⊎_elim, bytes_eq, codes, refl, sym, ap, ◌∙◌, subst, append_assoc}
+use Rattle.std.specs.List.{join_by}
 use Rattle.vfa_ir.specs.declared.operations.Fun1.{Fun1}
 use Rattle.vfa_ir.specs.declared.operations.Fun2.{Fun2}
 use Rattle.vfa_ir.specs.declared.operations.Over.{Over}
 use Rattle.vfa_ir.specs.declared.syntax.Literal.{Literal}
 use Rattle.vfa_ir.specs.declared.syntax.Operation.{Operation}
 use Rattle.vfa_ir.specs.declared.syntax.Written.{Written}
-use Rattle.vfa_ir.specs.Lexemes.{Lexeme, global, group, word, mark}
-use Rattle.vfa_ir.specs.Grammar.{IsWidth, FitsValue, FitsLiteral, FitsStrict}
+use Rattle.vfa_ir.specs.declared.syntax.Argument.{Argument}
+use Rattle.vfa_ir.specs.Lexemes.{Lexeme, local, global, group, number, word, mark}
+use Rattle.vfa_ir.specs.Grammar.{AreWords, FitsArgument, IsWidth, FitsValue, FitsLiteral, FitsStrict}
 use Rattle.vfa_ir.specs.Spelling as spell
-use Rattle.vfa_ir.specs.Words.{callee, fun1_word, fun2_word, over_word}
+use Rattle.vfa_ir.specs.Words.{call_words, callee, fun1_word, fun2_word, is_intrinsic, over_word, overs, parameter_words}
 use Rattle.vfa_read.specs.declared.intrinsics.Callee.{Callee}
-use Rattle.vfa_read.specs.Productions.{is_group, groups, same_state, typed_operands, arguments, strict_argument, argument, two_of, two_call, one_of, one_call, callee_call, last_of, plain_call, over_of, over_call, pair_type, call, assume_of, assume, is_mark}
+use Rattle.vfa_read.specs.declared.intrinsics.Intrinsic.{Intrinsic}
+use Rattle.vfa_read.specs.declared.intrinsics.VoidCallee.{VoidCallee}
+use Rattle.vfa_read.specs.Productions.{is_any_word, is_group, is_word_among, groups, same_state, typed_operands, arguments, strict_argument, argument, argument_of, assume_call, two_of, two_call, one_of, one_call, call_argument, call_arguments, callee_call, comma_list, last_of, named_call, named_of, other_call, other_of, plain_call, over_of, over_call, pair_type, call, assume_of, is_mark, void_call, void_callee_call, void_named, void_of, words_among}
 use Rattle.vfa_read.specs.Readers.{Reader, one, nothing, after, made, skip, ended, many, next_passes, ◌>>=◌}
-use Rattle.vfa_read.specs.Tables.{the_mark, the_word, the_type, the_global, type_of, value_of, literal_of, group_digits, intrinsic_in, callee_in, callees, overs}
-use Rattle.vfa_read.proofs.Exact.{Exact, Made, anything, may_anything, one_exact, nothing_exact, after_exact, made_exact, choose_exact, skip_exact, ended_exact, fits_exact, spelled_exact}
-use Rattle.vfa_read.proofs.LeafReaders.{first_or, mark_exact, word_exact, group_exact, type_exact, value_exact, literal_exact}
+use Rattle.vfa_read.specs.Tables.{the_mark, the_word, the_type, type_of, value_of, literal_of, group_digits, intrinsic_in, intrinsic_word, intrinsics, callee_after, callee_in, known_callee, known_void, void_after}
+use Rattle.vfa_read.proofs.Exact.{Exact, Made, anything, may, may_anything, one_exact, nothing_exact, after_exact, made_exact, choose_exact, skip_exact, ended_exact, fits_exact, spelled_exact}
+use Rattle.vfa_read.proofs.LeafReaders.{first_or, mapped, some_is, mark_exact, word_exact, group_exact, type_exact, value_exact, literal_exact}
 use Rattle.vfa_read.proofs.Many.{Begins, FitsFrom, many_exact, many_item, many_bad, many_done, shorter}
-use Rattle.vfa_read.proofs.FormReaders.{one_wide, FitsTwo, group_follow, op_follow, the_type_exact, typed_operands_exact, pair_type_exact}
-use Rattle.vfa_read.proofs.Words.{tested, same_text, same_itself, and_parts}
+use Rattle.vfa_read.proofs.FormReaders.{one_wide, FitsTwo, group_follow, op_follow, the_type_exact, typed_operands_exact, pair_type_exact, typed_exact}
+use Rattle.vfa_read.proofs.Words.{tested, same_text, same_itself, not_parts}
+use Rattle.vfa_read.proofs.CommaLists.{comma_list_exact, commas_close, commas_follow}
+use Rattle.vfa_read.proofs.WordLists.{no_letter, no_word_follows, words_exact, words_follow}
 
 -- attribute groups
 
@@ -96,15 +101,15 @@ strict_exact Fun1.Abs = fits_exact (strict_argument Fun1.Abs) spell.strict_argum
 strict_exact Fun1.Ctlz = fits_exact (strict_argument Fun1.Ctlz) spell.strict_argument (Made Some (FitsLiteral 1)) (FitsStrict Fun1.Ctlz) anything strict_some made_some some_made
 strict_exact Fun1.Cttz = fits_exact (strict_argument Fun1.Cttz) spell.strict_argument (Made Some (FitsLiteral 1)) (FitsStrict Fun1.Cttz) anything strict_some made_some some_made
 
-abbrev FitsArgument : ℕ → Fun1 → Written × Option Literal → Type 0
-FitsArgument w fun p = FitsValue w p.0 × FitsStrict fun p.1
+abbrev IntrinsicArgument : ℕ → Fun1 → Written × Option Literal → Type 0
+IntrinsicArgument w fun p = FitsValue w p.0 × FitsStrict fun p.1
 
-pub argument_exact : (w : ℕ) (fun : Fun1) → IsWidth w → Exact (argument w fun) (λ p. mark 40 ∷ ((spell.typed w p.0 ++ spell.strict_argument p.1) ++ (mark 41 ∷ []))) (FitsArgument w fun) anything
+pub argument_exact : (w : ℕ) (fun : Fun1) → IsWidth w → Exact (argument w fun) (λ p. mark 40 ∷ ((spell.typed w p.0 ++ spell.strict_argument p.1) ++ (mark 41 ∷ []))) (IntrinsicArgument w fun) anything
 argument_exact w fun h = skip_exact (the_mark 40) (mark 40) (skip (the_type w) (ended (after (one (value_of w)) (λ _. strict_argument fun)) (the_mark 41)))
-    (λ p. (spell.typed w p.0 ++ spell.strict_argument p.1) ++ (mark 41 ∷ [])) (FitsArgument w fun) anything (mark_exact 40)
+    (λ p. (spell.typed w p.0 ++ spell.strict_argument p.1) ++ (mark 41 ∷ [])) (IntrinsicArgument w fun) anything (mark_exact 40)
     (skip_exact (the_type w) (spell.type w) (ended (after (one (value_of w)) (λ _. strict_argument fun)) (the_mark 41))
-    (λ p. (spell.value p.0 ++ spell.strict_argument p.1) ++ (mark 41 ∷ [])) (FitsArgument w fun) anything (the_type_exact w h)
-    (ended_exact (after (one (value_of w)) (λ _. strict_argument fun)) (the_mark 41) (mark 41) (λ p. spell.value p.0 ++ spell.strict_argument p.1) (FitsArgument w fun) anything
+    (λ p. (spell.value p.0 ++ spell.strict_argument p.1) ++ (mark 41 ∷ [])) (IntrinsicArgument w fun) anything (the_type_exact w h)
+    (ended_exact (after (one (value_of w)) (λ _. strict_argument fun)) (the_mark 41) (mark 41) (λ p. spell.value p.0 ++ spell.strict_argument p.1) (IntrinsicArgument w fun) anything
     (after_exact (one (value_of w)) (λ _. strict_argument fun) spell.value (FitsValue w) anything (λ _ s. spell.strict_argument s) (λ _ s. FitsStrict fun s) (λ _ s. anything s)
     (value_exact w h) (λ _ _. strict_exact fun) (λ a b rest f g m. may_anything a (spell.strict_argument b ++ rest)))
     (mark_exact 41) (λ x f. refl)))
@@ -139,97 +144,284 @@ two_exact m w fun h = made_exact (two_of m w fun) (after (arguments w) (λ _. gr
     (λ p f. closed (spell.typed w p.0.0 ++ (mark 44 ∷ spell.typed w p.0.1)) (map group p.1)) (λ p f. refl)
 
 abbrev OneFits : ℕ → Fun1 → (Written × Option Literal) × List (List ℕ) → Type 0
-OneFits w fun p = FitsArgument w fun p.0 × Unit {0}
+OneFits w fun p = IntrinsicArgument w fun p.0 × Unit {0}
 
 pub one_call_exact : (m : Option (List ℕ)) (w : ℕ) (fun : Fun1) → IsWidth w → Exact (one_call m w fun) behind_callee (Made (one_of m w fun) (OneFits w fun)) op_follow
 unfolding one_call
 one_call_exact m w fun h = made_exact (one_of m w fun) (after (argument w fun) (λ _. groups))
     (λ p. (mark 40 ∷ ((spell.typed w p.0.0 ++ spell.strict_argument p.0.1) ++ (mark 41 ∷ []))) ++ map group p.1) (OneFits w fun) (λ p. group_follow p.1) behind_callee op_follow
-    (after_exact (argument w fun) (λ _. groups) (λ p. mark 40 ∷ ((spell.typed w p.0 ++ spell.strict_argument p.1) ++ (mark 41 ∷ []))) (FitsArgument w fun) anything
+    (after_exact (argument w fun) (λ _. groups) (λ p. mark 40 ∷ ((spell.typed w p.0 ++ spell.strict_argument p.1) ++ (mark 41 ∷ []))) (IntrinsicArgument w fun) anything
     (λ _ g. map group g) (λ _ _. Unit {0}) (λ _ g. group_follow g) (argument_exact w fun h) (λ _ _. groups_exact)
     (λ a b rest f g k. may_anything a (map group b ++ rest)))
     (λ p f. closed (spell.typed w p.0.0 ++ spell.strict_argument p.0.1) (map group p.1)) (λ p f. refl)
 
 -- the intrinsics by their names
 
-pub intrinsic_is : {A : Type 0} (name : A → List ℕ) (table : List (List ℕ × A)) (w : ℕ) (t : List ℕ) (x : A) → list_all (λ e. bytes_eq e.0 (name e.1)) table ≡ true → intrinsic_in table w t ≡ Some x → t ≡ callee (name x) w
-intrinsic_is name [] w t x a e = cc
-intrinsic_is name (entry ∷ rest) w t x a e =
-    let parts = and_parts (bytes_eq entry.0 (name entry.1)) (list_all (λ e. bytes_eq e.0 (name e.1)) rest) a in
-    ⊎_elim
-    (λ p. same_text t (callee entry.0 w) p.0 ∙ ap (λ z. callee z w) (same_text entry.0 (name entry.1) parts.0 ∙ ap name p.1))
-    (λ p. intrinsic_is name rest w t x parts.1 p.1)
-    (first_or (bytes_eq t (callee entry.0 w)) entry.1 x (intrinsic_in rest w t) e)
+find_passes : {K : Type 0} (test : K → Bool) (all : List K) (k : K) → find test all ≡ Some k → test k ≡ true
+find_passes test [] k e = cc
+find_passes test (x ∷ xs) k e = ⊎_elim
+    (λ p. ap test (sym p.1) ∙ p.0)
+    (λ p. find_passes test xs k p.1)
+    (first_or (test x) x k (find test xs) e)
 
-module _ {A : Type 0} (name : A → List ℕ) (table : List (List ℕ × A)) (names : list_all (λ e. bytes_eq e.0 (name e.1)) table ≡ true)
-    (w : ℕ) (each : (x : A) → intrinsic_in table w (callee (name x) w) ≡ Some x) (some : A) where
-  callee_is : (l : Lexeme) (x : A) → callee_in table w l ≡ Some x → l ≡ global (callee (name x) w)
-  callee_is (global t) x e = ap global (intrinsic_is name table w t x names e)
-  callee_is _ x e = cc
+intrinsic_is : {K : Type 0} (spelled : K → List ℕ) (all : List K) (w : ℕ) (t : List ℕ) (k : K) → intrinsic_in spelled all w t ≡ Some k → t ≡ callee (spelled k) w
+intrinsic_is spelled all w t k e = same_text t (callee (spelled k) w) (find_passes (λ x. bytes_eq t (callee (spelled x) w)) all k e)
 
-  pub callee_exact : Exact (one (callee_in table w)) (λ x. global (callee (name x) w) ∷ []) (λ _. Unit {0}) anything
-  callee_exact = one_exact (callee_in table w) (λ x. global (callee (name x) w)) (λ _. Unit {0}) callee_is (λ l x e. tt) (λ x f. each x) some tt
+module _ {K : Type 0} (spelled : K → List ℕ) (all : List K) (w : ℕ) (each : (k : K) → intrinsic_in spelled all w (callee (spelled k) w) ≡ Some k) (some : K) where
+  callee_is : (l : Lexeme) (k : K) → callee_in spelled all w l ≡ Some k → l ≡ global (callee (spelled k) w)
+  callee_is (global t) k e = ap global (intrinsic_is spelled all w t k e)
+  callee_is _ k e = cc
 
-over_each : (w : ℕ) (x : Over) → intrinsic_in overs w (callee (over_word x) w) ≡ Some x
-over_each w Over.Uadd = let e = same_itself (callee (codes "uadd.with.overflow") w) in rw e refl
-over_each w Over.Sadd = let e = same_itself (callee (codes "sadd.with.overflow") w) in rw e refl
-over_each w Over.Usub = let e = same_itself (callee (codes "usub.with.overflow") w) in rw e refl
-over_each w Over.Ssub = let e = same_itself (callee (codes "ssub.with.overflow") w) in rw e refl
-over_each w Over.Umul = let e = same_itself (callee (codes "umul.with.overflow") w) in rw e refl
-over_each w Over.Smul = let e = same_itself (callee (codes "smul.with.overflow") w) in rw e refl
+  callee_exact : Exact (one (callee_in spelled all w)) (λ k. global (callee (spelled k) w) ∷ []) (λ _. Unit {0}) anything
+  callee_exact = one_exact (callee_in spelled all w) (λ k. global (callee (spelled k) w)) (λ _. Unit {0}) callee_is (λ l k e. tt) (λ k f. each k) some tt
 
-pub over_callee_exact : (w : ℕ) → Exact (one (callee_in overs w)) (λ x. global (callee (over_word x) w) ∷ []) (λ _. Unit {0}) anything
-over_callee_exact w = callee_exact over_word overs refl w (over_each w) Over.Uadd
+over_each : (w : ℕ) (over : Over) → intrinsic_in over_word overs w (callee (over_word over) w) ≡ Some over
+over_each w Over.Uadd = let e = same_itself (callee (over_word Over.Uadd) w) in rw e refl
+over_each w over = let e = same_itself (callee (over_word over) w) in rw e refl
 
-abbrev pub callee_word : Callee → List ℕ
-callee_word (Callee.Two fun) = fun2_word fun
-callee_word (Callee.One fun) = fun1_word fun
+over_callee_exact : (w : ℕ) → Exact (one (callee_in over_word overs w)) (λ x. global (callee (over_word x) w) ∷ []) (λ _. Unit {0}) anything
+over_callee_exact w = callee_exact over_word overs w (over_each w) Over.Uadd
 
-callee_each : (w : ℕ) (x : Callee) → intrinsic_in callees w (callee (callee_word x) w) ≡ Some x
-callee_each w (Callee.Two Fun2.Umin) = let e = same_itself (callee (codes "umin") w) in rw e refl
-callee_each w (Callee.Two Fun2.Umax) = let e = same_itself (callee (codes "umax") w) in rw e refl
-callee_each w (Callee.Two Fun2.Smin) = let e = same_itself (callee (codes "smin") w) in rw e refl
-callee_each w (Callee.Two Fun2.Smax) = let e = same_itself (callee (codes "smax") w) in rw e refl
-callee_each w (Callee.Two Fun2.UaddSat) = let e = same_itself (callee (codes "uadd.sat") w) in rw e refl
-callee_each w (Callee.Two Fun2.UsubSat) = let e = same_itself (callee (codes "usub.sat") w) in rw e refl
-callee_each w (Callee.Two Fun2.SaddSat) = let e = same_itself (callee (codes "sadd.sat") w) in rw e refl
-callee_each w (Callee.Two Fun2.SsubSat) = let e = same_itself (callee (codes "ssub.sat") w) in rw e refl
-callee_each w (Callee.One Fun1.Abs) = let e = same_itself (callee (codes "abs") w) in rw e refl
-callee_each w (Callee.One Fun1.Ctlz) = let e = same_itself (callee (codes "ctlz") w) in rw e refl
-callee_each w (Callee.One Fun1.Cttz) = let e = same_itself (callee (codes "cttz") w) in rw e refl
-callee_each w (Callee.One Fun1.Ctpop) = let e = same_itself (callee (codes "ctpop") w) in rw e refl
+intrinsic_each : (w : ℕ) (x : Intrinsic) → intrinsic_in intrinsic_word intrinsics w (callee (intrinsic_word x) w) ≡ Some x
+intrinsic_each w (Intrinsic.Two Fun2.Umin) = let e = same_itself (callee (intrinsic_word (Intrinsic.Two Fun2.Umin)) w) in rw e refl
+intrinsic_each w (Intrinsic.Two fun) = let e = same_itself (callee (fun2_word fun) w) in rw e refl
+intrinsic_each w (Intrinsic.One Fun1.Abs) = let e = same_itself (callee (intrinsic_word (Intrinsic.One Fun1.Abs)) w) in rw e refl
+intrinsic_each w (Intrinsic.One fun) = let e = same_itself (callee (fun1_word fun) w) in rw e refl
 
-pub plain_callee_exact : (w : ℕ) → Exact (one (callee_in callees w)) (λ x. global (callee (callee_word x) w) ∷ []) (λ _. Unit {0}) anything
-plain_callee_exact w = callee_exact callee_word callees refl w (callee_each w) (Callee.One Fun1.Ctpop)
+-- what is called, after words and a type
+
+abbrev pub callee_name : ℕ → Callee → List ℕ
+callee_name w (Callee.Known intrinsic) = callee (intrinsic_word intrinsic) w
+callee_name w (Callee.Other name) = name
+
+-- an intrinsic stands after no words
+abbrev pub CalleeStands : List (List ℕ) → Callee → Type 0
+CalleeStands words (Callee.Known _) = words ≡ []
+CalleeStands words (Callee.Other name) = IsTrue (not (is_intrinsic name))
+
+record Named (words : List (List ℕ)) (w : ℕ) (name : List ℕ) (c : Callee) : Type 0 where
+  form : name ≡ callee_name w c
+  stands : CalleeStands words c
+
+known_is : (words : List (List ℕ)) (w : ℕ) (name : List ℕ) (c : Callee) → known_callee words w name ≡ Some c → Named words w name c
+known_is [] w name c e =
+    let m = mapped Callee.Known (intrinsic_in intrinsic_word intrinsics w name) c e in
+    subst (Named [] w name) m.2 (record { form = intrinsic_is intrinsic_word intrinsics w name m.0 m.1; stands = refl })
+known_is (_ ∷ _) w name c e = cc
+
+name_is : (words : List (List ℕ)) (w : ℕ) (name : List ℕ) (c : Callee) → callee_after words w (global name) ≡ Some c → Named words w name c
+name_is words w name c e = by_test (is_intrinsic name) refl e
+  where
+    by_test : (b : Bool) → is_intrinsic name ≡ b → cond b (known_callee words w name) (Some (Callee.Other name)) ≡ Some c → Named words w name c
+    by_test true t e = known_is words w name c e
+    by_test false t e = subst (Named words w name) (some_is (Callee.Other name) c e) (record { form = refl; stands = ap not t })
+
+callee_form : (words : List (List ℕ)) (w : ℕ) (l : Lexeme) (c : Callee) → callee_after words w l ≡ Some c → l ≡ global (callee_name w c)
+callee_form words w (global name) c e = ap global (name_is words w name c e).form
+callee_form words w _ c e = cc
+
+callee_stands : (words : List (List ℕ)) (w : ℕ) (l : Lexeme) (c : Callee) → callee_after words w l ≡ Some c → CalleeStands words c
+callee_stands words w (global name) c e = (name_is words w name c e).stands
+callee_stands words w _ c e = cc
+
+callee_again : (words : List (List ℕ)) (w : ℕ) (c : Callee) → CalleeStands words c → callee_after words w (global (callee_name w c)) ≡ Some c
+callee_again words w (Callee.Known intrinsic) f = let e = intrinsic_each w intrinsic in rw f (ap (option_map Callee.Known) e)
+callee_again words w (Callee.Other name) f = let e = not_parts (is_intrinsic name) f in rw e refl
+
+pub after_words_exact : (words : List (List ℕ)) (w : ℕ) → Exact (one (callee_after words w)) (λ c. global (callee_name w c) ∷ []) (CalleeStands words) anything
+after_words_exact words w = one_exact (callee_after words w) (λ c. global (callee_name w c)) (CalleeStands words) (callee_form words w) (callee_stands words w) (callee_again words w)
+    (Callee.Other (codes "f")) refl
+
+-- the same after `void`
+
+abbrev pub void_name : VoidCallee → List ℕ
+void_name VoidCallee.Assume = codes "llvm.assume"
+void_name (VoidCallee.Other name) = name
+
+abbrev pub VoidStands : List (List ℕ) → VoidCallee → Type 0
+VoidStands words VoidCallee.Assume = words ≡ []
+VoidStands words (VoidCallee.Other name) = IsTrue (not (is_intrinsic name))
+
+record VoidNamed (words : List (List ℕ)) (name : List ℕ) (c : VoidCallee) : Type 0 where
+  form : name ≡ void_name c
+  stands : VoidStands words c
+
+known_void_is : (words : List (List ℕ)) (name : List ℕ) (c : VoidCallee) → known_void words name ≡ Some c → VoidNamed words name c
+known_void_is [] name c e =
+    let t = tested (bytes_eq name (codes "llvm.assume")) VoidCallee.Assume c e in
+    subst (VoidNamed [] name) t.1 (record { form = same_text name (codes "llvm.assume") t.0; stands = refl })
+known_void_is (_ ∷ _) name c e = cc
+
+void_is : (words : List (List ℕ)) (name : List ℕ) (c : VoidCallee) → void_after words (global name) ≡ Some c → VoidNamed words name c
+void_is words name c e = by_test (is_intrinsic name) refl e
+  where
+    by_test : (b : Bool) → is_intrinsic name ≡ b → cond b (known_void words name) (Some (VoidCallee.Other name)) ≡ Some c → VoidNamed words name c
+    by_test true t e = known_void_is words name c e
+    by_test false t e = subst (VoidNamed words name) (some_is (VoidCallee.Other name) c e) (record { form = refl; stands = ap not t })
+
+void_form : (words : List (List ℕ)) (l : Lexeme) (c : VoidCallee) → void_after words l ≡ Some c → l ≡ global (void_name c)
+void_form words (global name) c e = ap global (void_is words name c e).form
+void_form words _ c e = cc
+
+void_stands : (words : List (List ℕ)) (l : Lexeme) (c : VoidCallee) → void_after words l ≡ Some c → VoidStands words c
+void_stands words (global name) c e = (void_is words name c e).stands
+void_stands words _ c e = cc
+
+void_again : (words : List (List ℕ)) (c : VoidCallee) → VoidStands words c → void_after words (global (void_name c)) ≡ Some c
+void_again words VoidCallee.Assume f = rw f refl
+void_again words (VoidCallee.Other name) f = let e = not_parts (is_intrinsic name) f in rw e refl
+
+after_void_exact : (words : List (List ℕ)) → Exact (one (void_after words)) (λ c. global (void_name c) ∷ []) (VoidStands words) anything
+after_void_exact words = one_exact (void_after words) (λ c. global (void_name c)) (VoidStands words) (void_form words) (void_stands words) (void_again words) (VoidCallee.Other (codes "f")) refl
+
+-- a call of a function that is no intrinsic: its arguments
+
+no_attribute : (v : Written) (rest : List Lexeme) (ws : List (List ℕ)) → may (words_follow parameter_words ws) (spell.value v ++ rest) ≡ true
+no_attribute (Written.Local name) rest ws = no_word_follows parameter_words ws (local name) refl
+no_attribute (Written.Literal (Literal.Boolean true)) rest ws = no_word_follows parameter_words ws (word (codes "true")) refl
+no_attribute (Written.Literal (Literal.Boolean false)) rest ws = no_word_follows parameter_words ws (word (codes "false")) refl
+no_attribute (Written.Literal (Literal.Number text)) rest ws = no_word_follows parameter_words ws (number text) refl
+no_attribute Written.Poison rest ws = no_word_follows parameter_words ws (word (codes "poison")) refl
+
+abbrev ArgumentParts : ℕ × (List (List ℕ) × Written) → Type 0
+ArgumentParts p = IsWidth p.0 × (AreWords parameter_words p.1.0 × FitsValue p.0 p.1.1)
+
+pub call_argument_exact : Exact call_argument spell.argument FitsArgument anything
+unfolding call_argument
+call_argument_exact =
+    let rest : ℕ → Reader (List (List ℕ) × Written) = λ width. after (words_among parameter_words) (λ _. one (value_of width)) in
+    fits_exact (made argument_of (after (one type_of) rest)) spell.argument (Made argument_of ArgumentParts) FitsArgument anything
+    (made_exact argument_of (after (one type_of) rest) (λ p. spell.type p.0 ∷ (map word p.1.0 ++ spell.value p.1.1)) ArgumentParts anything spell.argument anything
+    (typed_exact rest (λ _ q. map word q.0 ++ spell.value q.1) (λ w q. AreWords parameter_words q.0 × FitsValue w q.1)
+    (λ w h. after_exact (words_among parameter_words) (λ _. one (value_of w)) (map word) (AreWords parameter_words) (words_follow parameter_words) (λ _ v. spell.value v) (λ _ v. FitsValue w v) (λ _ v. anything v)
+    (words_exact parameter_words (codes "noundef") refl) (λ _ _. value_exact w h) (λ ws v rest f g m. no_attribute v rest ws)))
+    (λ p f. refl) (λ p f. refl))
+    (λ a m. subst FitsArgument m.is (record { width = m.fits.0; words = m.fits.1.0; value = m.fits.1.1 }))
+    (λ a f. record { from = (a.width, (a.words, a.value)); fits = (f.width, (f.words, f.value)); is = refl })
+
+pub argument_marks : (a : Argument) (c : ℕ) → anything a (mark c) ≡ true
+argument_marks a c = refl
+
+pub argument_begins : (a : Argument) (rest : List Lexeme) → next_passes is_any_word (spell.argument a ++ rest) ≡ true
+argument_begins a rest = refl
+
+abbrev arguments_joined : List Argument → List Lexeme
+arguments_joined = join_by spell.argument (mark 44 ∷ [])
+
+call_arguments_exact : Exact call_arguments (λ xs. mark 40 ∷ (arguments_joined xs ++ (mark 41 ∷ []))) (All FitsArgument) anything
+unfolding call_arguments
+call_arguments_exact = skip_exact (the_mark 40) (mark 40) (ended (comma_list is_any_word call_argument) (the_mark 41)) (λ xs. arguments_joined xs ++ (mark 41 ∷ [])) (All FitsArgument) anything (mark_exact 40)
+    (ended_exact (comma_list is_any_word call_argument) (the_mark 41) (mark 41) arguments_joined (All FitsArgument)
+    (commas_follow call_argument spell.argument FitsArgument anything call_argument_exact argument_marks is_any_word argument_begins)
+    (comma_list_exact call_argument spell.argument FitsArgument anything call_argument_exact argument_marks is_any_word argument_begins) (mark_exact 41)
+    (λ xs f. commas_close call_argument spell.argument FitsArgument anything call_argument_exact argument_marks is_any_word argument_begins 41 refl refl xs))
+
+-- a call from its arguments on, and from its words on
+
+abbrev arguments_spelling : Operation → List Lexeme
+arguments_spelling (Operation.Call words _ _ _ arguments) = mark 40 ∷ (arguments_joined arguments ++ (mark 41 ∷ map group words.groups))
+arguments_spelling op = behind_callee op
+
+abbrev OtherFits : List Argument × List (List ℕ) → Type 0
+OtherFits p = All FitsArgument p.0 × Unit {0}
+
+other_exact : (m : Option (List ℕ)) (words : List (List ℕ)) (width : Option ℕ) (name : List ℕ) → Exact (other_call m words width name) arguments_spelling (Made (other_of m words width name) OtherFits) op_follow
+unfolding other_call
+other_exact m words width name = made_exact (other_of m words width name) (after call_arguments (λ _. groups))
+    (λ p. (mark 40 ∷ (arguments_joined p.0 ++ (mark 41 ∷ []))) ++ map group p.1) OtherFits (λ p. group_follow p.1) arguments_spelling op_follow
+    (after_exact call_arguments (λ _. groups) (λ xs. mark 40 ∷ (arguments_joined xs ++ (mark 41 ∷ []))) (All FitsArgument) anything
+    (λ _ g. map group g) (λ _ _. Unit {0}) (λ _ g. group_follow g) call_arguments_exact (λ _ _. groups_exact)
+    (λ a b rest f g k. may_anything a (map group b ++ rest)))
+    (λ p f. closed (arguments_joined p.0) (map group p.1)) (λ p f. refl)
+
+-- no type, and no `void`, is a word of a call
+
+type_no_word : (w : ℕ) → IsWidth w → is_word_among call_words (spell.type w) ≡ false
+type_no_word w h = let a = no_letter w (codes "reg") h in rw a refl
+
+type_after_words : (ws : List (List ℕ)) (w : ℕ) → IsWidth w → words_follow call_words ws (spell.type w) ≡ true
+type_after_words ws w h = no_word_follows call_words ws (spell.type w) (type_no_word w h)
 
 -- a call with its callee
 
-abbrev pub CalleeFits : Option (List ℕ) → ℕ → Callee → Operation → Type 0
-CalleeFits m w (Callee.Two fun) = Made (two_of m w fun) (TwoFits w)
-CalleeFits m w (Callee.One fun) = Made (one_of m w fun) (OneFits w fun)
+abbrev pub CalleeFits : Option (List ℕ) → List (List ℕ) → ℕ → Callee → Operation → Type 0
+CalleeFits m words w (Callee.Known (Intrinsic.Two fun)) = Made (two_of m w fun) (TwoFits w)
+CalleeFits m words w (Callee.Known (Intrinsic.One fun)) = Made (one_of m w fun) (OneFits w fun)
+CalleeFits m words w (Callee.Other name) = Made (other_of m words (Some w) name) OtherFits
 
-callee_call_exact : (m : Option (List ℕ)) (w : ℕ) (c : Callee) → IsWidth w → Exact (callee_call m w c) behind_callee (CalleeFits m w c) op_follow
-callee_call_exact m w (Callee.Two fun) h = two_exact m w fun h
-callee_call_exact m w (Callee.One fun) h = one_call_exact m w fun h
+two_arguments : (m : Option (List ℕ)) (w : ℕ) (fun : Fun2) (op : Operation) → Made (two_of m w fun) (TwoFits w) op → behind_callee op ≡ arguments_spelling op
+two_arguments m w fun op f = subst (λ z. behind_callee z ≡ arguments_spelling z) f.is refl
 
-abbrev pub PlainFits : Option (List ℕ) → ℕ × (Callee × Operation) → Type 0
-PlainFits m p = IsWidth p.0 × (Unit {0} × CalleeFits m p.0 p.1.0 p.1.1)
+one_arguments : (m : Option (List ℕ)) (w : ℕ) (fun : Fun1) (op : Operation) → Made (one_of m w fun) (OneFits w fun) op → behind_callee op ≡ arguments_spelling op
+one_arguments m w fun op f = subst (λ z. behind_callee z ≡ arguments_spelling z) f.is refl
 
-two_behind : (m : Option (List ℕ)) (w : ℕ) (c : Callee) (op : Operation) → CalleeFits m w c op → behind_call op ≡ spell.type w ∷ global (callee (callee_word c) w) ∷ behind_callee op
-two_behind m w (Callee.Two fun) op f = subst (λ z. behind_call z ≡ spell.type w ∷ global (callee (fun2_word fun) w) ∷ behind_callee z) f.is refl
-two_behind m w (Callee.One fun) op f = subst (λ z. behind_call z ≡ spell.type w ∷ global (callee (fun1_word fun) w) ∷ behind_callee z) f.is refl
+callee_call_exact : (m : Option (List ℕ)) (words : List (List ℕ)) (w : ℕ) (c : Callee) → IsWidth w → Exact (callee_call m words w c) arguments_spelling (CalleeFits m words w c) op_follow
+callee_call_exact m words w (Callee.Known (Intrinsic.Two fun)) h = spelled_exact (two_call m w fun) behind_callee arguments_spelling (Made (two_of m w fun) (TwoFits w)) op_follow (two_exact m w fun h) (two_arguments m w fun)
+callee_call_exact m words w (Callee.Known (Intrinsic.One fun)) h = spelled_exact (one_call m w fun) behind_callee arguments_spelling (Made (one_of m w fun) (OneFits w fun)) op_follow (one_call_exact m w fun h) (one_arguments m w fun)
+callee_call_exact m words w (Callee.Other name) h = other_exact m words (Some w) name
 
-pub plain_exact : (m : Option (List ℕ)) → Exact (plain_call m) behind_call (Made last_of (PlainFits m)) op_follow
-unfolding plain_call
-plain_exact m = made_exact last_of (after (one type_of) (λ width. after (one (callee_in callees width)) (callee_call m width)))
-    (λ p. spell.type p.0 ∷ global (callee (callee_word p.1.0) p.0) ∷ behind_callee p.1.1) (PlainFits m) (λ p. op_follow p.1.1) behind_call op_follow
-    (after_exact (one type_of) (λ width. after (one (callee_in callees width)) (callee_call m width)) (λ w. spell.type w ∷ []) IsWidth anything
-    (λ w q. global (callee (callee_word q.0) w) ∷ behind_callee q.1) (λ w q. Unit {0} × CalleeFits m w q.0 q.1) (λ _ q. op_follow q.1) type_exact
-    (λ w h. after_exact (one (callee_in callees w)) (callee_call m w) (λ c. global (callee (callee_word c) w) ∷ []) (λ _. Unit {0}) anything
-    (λ _ op. behind_callee op) (λ c op. CalleeFits m w c op) (λ _ op. op_follow op) (plain_callee_exact w) (λ c _. callee_call_exact m w c h)
-    (λ a b rest f g k. may_anything a (behind_callee b ++ rest)))
+abbrev pub NamedFits : Option (List ℕ) → List (List ℕ) → ℕ × (Callee × Operation) → Type 0
+NamedFits m words p = IsWidth p.0 × (CalleeStands words p.1.0 × CalleeFits m words p.0 p.1.0 p.1.1)
+
+abbrev pub PlainFits : Option (List ℕ) → List (List ℕ) × Operation → Type 0
+PlainFits m p = AreWords call_words p.0 × Made named_of (NamedFits m p.0) p.1
+
+-- from the type of the result on
+abbrev named_spelling : Operation → List Lexeme
+named_spelling (Operation.Two words fun w a b) = spell.type w ∷ global (callee (fun2_word fun) w) ∷ arguments_spelling (Operation.Two words fun w a b)
+named_spelling (Operation.One words fun w a strict) = spell.type w ∷ global (callee (fun1_word fun) w) ∷ arguments_spelling (Operation.One words fun w a strict)
+named_spelling (Operation.Call words attributes width name arguments) = spell.result_type width ∷ global name ∷ arguments_spelling (Operation.Call words attributes width name arguments)
+named_spelling _ = []
+
+abbrev NamedSpelled : ℕ → Callee → Operation → Type 0
+NamedSpelled w c op = named_spelling op ≡ spell.type w ∷ global (callee_name w c) ∷ arguments_spelling op
+
+named_spelled : (m : Option (List ℕ)) (words : List (List ℕ)) (w : ℕ) (c : Callee) (op : Operation) → CalleeFits m words w c op → NamedSpelled w c op
+named_spelled m words w (Callee.Known (Intrinsic.Two fun)) op f = subst (NamedSpelled w (Callee.Known (Intrinsic.Two fun))) f.is refl
+named_spelled m words w (Callee.Known (Intrinsic.One fun)) op f = subst (NamedSpelled w (Callee.Known (Intrinsic.One fun))) f.is refl
+named_spelled m words w (Callee.Other name) op f = subst (NamedSpelled w (Callee.Other name)) f.is refl
+
+abbrev named_rest : Option (List ℕ) → List (List ℕ) → ℕ → Reader (Callee × Operation)
+named_rest m words w = after (one (callee_after words w)) (callee_call m words w)
+
+named_exact : (m : Option (List ℕ)) (words : List (List ℕ)) → Exact (named_call m words) named_spelling (Made named_of (NamedFits m words)) op_follow
+named_exact m words = made_exact named_of (after (one type_of) (named_rest m words))
+    (λ p. spell.type p.0 ∷ global (callee_name p.0 p.1.0) ∷ arguments_spelling p.1.1) (NamedFits m words) (λ p. op_follow p.1.1) named_spelling op_follow
+    (after_exact (one type_of) (named_rest m words) (λ w. spell.type w ∷ []) IsWidth anything
+    (λ w q. global (callee_name w q.0) ∷ arguments_spelling q.1) (λ w q. CalleeStands words q.0 × CalleeFits m words w q.0 q.1) (λ _ q. op_follow q.1) type_exact
+    (λ w h. after_exact (one (callee_after words w)) (callee_call m words w) (λ c. global (callee_name w c) ∷ []) (CalleeStands words) anything
+    (λ _ op. arguments_spelling op) (λ c op. CalleeFits m words w c op) (λ _ op. op_follow op) (after_words_exact words w) (λ c _. callee_call_exact m words w c h)
+    (λ a b rest f g k. may_anything a (arguments_spelling b ++ rest)))
     (λ a b rest f g k. refl))
-    (λ p f. two_behind m p.0 p.1.0 p.1.1 f.1.1) (λ p f. refl)
+    (λ p f. named_spelled m words p.0 p.1.0 p.1.1 f.1.1) (λ p f. refl)
+
+abbrev pub words_spelling : Operation → List Lexeme
+words_spelling (Operation.Call words attributes width name arguments) = map word attributes ++ named_spelling (Operation.Call words attributes width name arguments)
+words_spelling op = behind_call op
+
+abbrev WordsSpelled : List (List ℕ) → Operation → Type 0
+WordsSpelled words op = words_spelling op ≡ map word words ++ named_spelling op
+
+words_spelled : (m : Option (List ℕ)) (words : List (List ℕ)) (w : ℕ) (c : Callee) (op : Operation) → CalleeStands words c → CalleeFits m words w c op → WordsSpelled words op
+words_spelled m words w (Callee.Known (Intrinsic.Two fun)) op s f = subst (λ z. WordsSpelled z op) (sym s) (subst (WordsSpelled []) f.is refl)
+words_spelled m words w (Callee.Known (Intrinsic.One fun)) op s f = subst (λ z. WordsSpelled z op) (sym s) (subst (WordsSpelled []) f.is refl)
+words_spelled m words w (Callee.Other name) op s f = subst (WordsSpelled words) f.is refl
+
+plain_spelled : (m : Option (List ℕ)) (p : List (List ℕ) × Operation) → PlainFits m p → words_spelling p.1 ≡ map word p.0 ++ named_spelling p.1
+plain_spelled m p f = let n = f.1 in subst (WordsSpelled p.0) n.is (words_spelled m p.0 n.from.0 n.from.1.0 n.from.1.1 n.fits.1.0 n.fits.1.1)
+
+named_joins : (m : Option (List ℕ)) (ws : List (List ℕ)) (op : Operation) (rest : List Lexeme) → Made named_of (NamedFits m ws) op → may (words_follow call_words ws) (named_spelling op ++ rest) ≡ true
+named_joins m ws op rest n =
+    ap (λ z. may (words_follow call_words ws) (named_spelling z ++ rest)) (sym n.is)
+    ∙ ap (λ z. may (words_follow call_words ws) (z ++ rest)) (named_spelled m ws n.from.0 n.from.1.0 n.from.1.1 n.fits.1.1)
+    ∙ type_after_words ws n.from.0 n.fits.0
+
+pub plain_exact : (m : Option (List ℕ)) → Exact (plain_call m) words_spelling (Made last_of (PlainFits m)) op_follow
+unfolding plain_call
+plain_exact m = made_exact last_of (after (words_among call_words) (named_call m)) (λ p. map word p.0 ++ named_spelling p.1) (PlainFits m) (λ p. op_follow p.1) words_spelling op_follow
+    (after_exact (words_among call_words) (named_call m) (map word) (AreWords call_words) (words_follow call_words) (λ _ op. named_spelling op) (λ ws op. Made named_of (NamedFits m ws) op) (λ _ op. op_follow op)
+    (words_exact call_words (codes "ccc") refl) (λ ws _. named_exact m ws) (λ ws op rest f g k. named_joins m ws op rest g))
+    (λ p f. plain_spelled m p f) (λ p f. refl)
 
 abbrev pub OverFits : ℕ × (Over × ((Written × Written) × List (List ℕ))) → Type 0
 OverFits p = IsWidth p.0 × (Unit {0} × (FitsTwo p.0 p.1.1.0 × Unit {0}))
@@ -239,11 +431,11 @@ over_arguments w p = (mark 40 ∷ ((spell.typed w p.0.0 ++ (mark 44 ∷ spell.ty
 
 pub over_exact : (m : Option (List ℕ)) → Exact (over_call m) behind_call (Made (over_of m) OverFits) op_follow
 unfolding over_call
-over_exact m = made_exact (over_of m) (after pair_type (λ width. after (one (callee_in overs width)) (λ _. after (arguments width) (λ _. groups))))
+over_exact m = made_exact (over_of m) (after pair_type (λ width. after (one (callee_in over_word overs width)) (λ _. after (arguments width) (λ _. groups))))
     (λ p. spell.pair_type p.0 ++ (global (callee (over_word p.1.0) p.0) ∷ over_arguments p.0 p.1.1)) OverFits (λ p. group_follow p.1.1.1) behind_call op_follow
-    (after_exact pair_type (λ width. after (one (callee_in overs width)) (λ _. after (arguments width) (λ _. groups))) spell.pair_type IsWidth anything
+    (after_exact pair_type (λ width. after (one (callee_in over_word overs width)) (λ _. after (arguments width) (λ _. groups))) spell.pair_type IsWidth anything
     (λ w q. global (callee (over_word q.0) w) ∷ over_arguments w q.1) (λ w q. Unit {0} × (FitsTwo w q.1.0 × Unit {0})) (λ _ q. group_follow q.1.1) pair_type_exact
-    (λ w h. after_exact (one (callee_in overs w)) (λ _. after (arguments w) (λ _. groups)) (λ x. global (callee (over_word x) w) ∷ []) (λ _. Unit {0}) anything
+    (λ w h. after_exact (one (callee_in over_word overs w)) (λ _. after (arguments w) (λ _. groups)) (λ x. global (callee (over_word x) w) ∷ []) (λ _. Unit {0}) anything
     (λ _ q. over_arguments w q) (λ _ q. FitsTwo w q.0 × Unit {0}) (λ _ q. group_follow q.1) (over_callee_exact w)
     (λ _ _. after_exact (arguments w) (λ _. groups) (λ p. mark 40 ∷ ((spell.typed w p.0 ++ (mark 44 ∷ spell.typed w p.1)) ++ (mark 41 ∷ []))) (FitsTwo w) anything
     (λ _ g. map group g) (λ _ _. Unit {0}) (λ _ g. group_follow g) (arguments_exact w h) (λ _ _. groups_exact)
@@ -253,24 +445,26 @@ over_exact m = made_exact (over_of m) (after pair_type (λ width. after (one (ca
     (λ p f. ap (λ z. spell.pair_type p.0 ++ (global (callee (over_word p.1.0) p.0) ∷ z)) (closed (spell.typed p.0 p.1.1.0.0 ++ (mark 44 ∷ spell.typed p.0 p.1.1.0.1)) (map group p.1.1.1)))
     (λ p f. refl)
 
-pub call_exact : (m : Option (List ℕ)) → Exact (call m) behind_call (λ op. Made (over_of m) OverFits op ⊎ Made last_of (PlainFits m) op) op_follow
+no_brace : (ws : List (List ℕ)) (ls rest : List Lexeme) → next_passes (is_mark 123) (ls ++ rest) ≡ false → next_passes (is_mark 123) ((map word ws ++ ls) ++ rest) ≡ false
+no_brace [] ls rest e = e
+no_brace (w ∷ ws) ls rest e = refl
+
+named_no_brace : (m : Option (List ℕ)) (ws : List (List ℕ)) (op : Operation) (rest : List Lexeme) → Made named_of (NamedFits m ws) op → next_passes (is_mark 123) (named_spelling op ++ rest) ≡ false
+named_no_brace m ws op rest n =
+    ap (λ z. next_passes (is_mark 123) (named_spelling z ++ rest)) (sym n.is)
+    ∙ ap (λ z. next_passes (is_mark 123) (z ++ rest)) (named_spelled m ws n.from.0 n.from.1.0 n.from.1.1 n.fits.1.1)
+
+pub call_exact : (m : Option (List ℕ)) → Exact (call m) words_spelling (λ op. Made (over_of m) OverFits op ⊎ Made last_of (PlainFits m) op) op_follow
 unfolding call
-call_exact m = choose_exact (is_mark 123) (over_call m) (plain_call m) behind_call (Made (over_of m) OverFits) (Made last_of (PlainFits m)) op_follow
-    (over_exact m) (plain_exact m)
-    (λ op rest f k. ap (λ z. next_passes (is_mark 123) (behind_call z ++ rest)) (sym f.is))
-    (λ op rest f k. ap (λ z. next_passes (is_mark 123) (behind_call z ++ rest)) (sym f.is) ∙ ap (λ z. next_passes (is_mark 123) (z ++ rest)) (two_behind m f.from.0 f.from.1.0 f.from.1.1 f.fits.1.1))
+call_exact m = choose_exact (is_mark 123) (over_call m) (plain_call m) words_spelling (Made (over_of m) OverFits) (Made last_of (PlainFits m)) op_follow
+    (spelled_exact (over_call m) behind_call words_spelling (Made (over_of m) OverFits) op_follow (over_exact m) (λ op f. subst (λ z. behind_call z ≡ words_spelling z) f.is refl))
+    (plain_exact m)
+    (λ op rest f k. ap (λ z. next_passes (is_mark 123) (words_spelling z ++ rest)) (sym f.is))
+    (λ op rest f k. ap (λ z. next_passes (is_mark 123) (words_spelling z ++ rest)) (sym f.is)
+    ∙ ap (λ z. next_passes (is_mark 123) (z ++ rest)) (plain_spelled m f.from f.fits)
+    ∙ no_brace f.from.0 (named_spelling f.from.1) rest (named_no_brace m f.from.0 f.from.1 rest f.fits.1))
 
--- `llvm.assume`
-
-global_is : (text : List ℕ) (l : Lexeme) (x : Unit {0}) → the_global text l ≡ Some x → l ≡ global text
-global_is text (global n) x e = ap global (same_text n text (tested (bytes_eq n text) tt x e).0)
-global_is text _ x e = cc
-
-global_again : (text : List ℕ) (x : Unit {0}) → the_global text (global text) ≡ Some x
-global_again text x = let e = same_itself text in rw e refl
-
-pub the_global_exact : (text : List ℕ) → Exact (one (the_global text)) (λ _. global text ∷ []) (λ _. Unit {0}) anything
-the_global_exact text = one_exact (the_global text) (λ _. global text) (λ _. Unit {0}) (global_is text) (λ l x e. tt) (λ x f. global_again text x) tt tt
+-- a call without a result
 
 abbrev pub AssumeFits : Written × List (List ℕ) → Type 0
 AssumeFits p = FitsValue 1 p.0 × Unit {0}
@@ -286,14 +480,46 @@ assumed_exact = skip_exact (the_mark 40) (mark 40) (skip (the_type 1) (ended (on
     (skip_exact (the_type 1) (spell.type 1) (ended (one (value_of 1)) (the_mark 41)) (λ c. spell.value c ++ (mark 41 ∷ [])) (FitsValue 1) anything (the_type_exact 1 one_wide)
     (ended_exact (one (value_of 1)) (the_mark 41) (mark 41) spell.value (FitsValue 1) anything (value_exact 1 one_wide) (mark_exact 41) (λ x f. refl)))
 
-pub assume_exact : (m : Option (List ℕ)) → Exact (assume m) behind_call (Made (assume_of m) AssumeFits) op_follow
-unfolding assume
-assume_exact m = made_exact (assume_of m) (skip (the_word (codes "void")) (skip (the_global (codes "llvm.assume")) (after assumed (λ _. groups))))
-    (λ p. word (codes "void") ∷ global (codes "llvm.assume") ∷ (assumed_spelling p.0 ++ map group p.1)) AssumeFits (λ p. group_follow p.1) behind_call op_follow
-    (skip_exact (the_word (codes "void")) (word (codes "void")) (skip (the_global (codes "llvm.assume")) (after assumed (λ _. groups)))
-    (λ p. global (codes "llvm.assume") ∷ (assumed_spelling p.0 ++ map group p.1)) AssumeFits (λ p. group_follow p.1) (word_exact (codes "void"))
-    (skip_exact (the_global (codes "llvm.assume")) (global (codes "llvm.assume")) (after assumed (λ _. groups))
-    (λ p. assumed_spelling p.0 ++ map group p.1) AssumeFits (λ p. group_follow p.1) (the_global_exact (codes "llvm.assume"))
+abbrev void_arguments : Operation → List Lexeme
+void_arguments (Operation.Assume words c) = mark 40 ∷ (spell.typed 1 c ++ (mark 41 ∷ map group words.groups))
+void_arguments op = arguments_spelling op
+
+assume_exact : (m : Option (List ℕ)) → Exact (assume_call m) void_arguments (Made (assume_of m) AssumeFits) op_follow
+unfolding assume_call
+assume_exact m = made_exact (assume_of m) (after assumed (λ _. groups)) (λ p. assumed_spelling p.0 ++ map group p.1) AssumeFits (λ p. group_follow p.1) void_arguments op_follow
     (after_exact assumed (λ _. groups) assumed_spelling (FitsValue 1) anything (λ _ g. map group g) (λ _ _. Unit {0}) (λ _ g. group_follow g) assumed_exact (λ _ _. groups_exact)
-    (λ a b rest f g k. may_anything a (map group b ++ rest)))))
-    (λ p f. ap (λ z. word (codes "void") ∷ global (codes "llvm.assume") ∷ z) (closed (spell.typed 1 p.0) (map group p.1))) (λ p f. refl)
+    (λ a b rest f g k. may_anything a (map group b ++ rest)))
+    (λ p f. closed (spell.typed 1 p.0) (map group p.1)) (λ p f. refl)
+
+abbrev pub VoidCalleeFits : Option (List ℕ) → List (List ℕ) → VoidCallee → Operation → Type 0
+VoidCalleeFits m words VoidCallee.Assume = Made (assume_of m) AssumeFits
+VoidCalleeFits m words (VoidCallee.Other name) = Made (other_of m words None name) OtherFits
+
+void_callee_exact : (m : Option (List ℕ)) (words : List (List ℕ)) (c : VoidCallee) → Exact (void_callee_call m words c) void_arguments (VoidCalleeFits m words c) op_follow
+void_callee_exact m words VoidCallee.Assume = assume_exact m
+void_callee_exact m words (VoidCallee.Other name) = spelled_exact (other_call m words None name) arguments_spelling void_arguments (Made (other_of m words None name) OtherFits) op_follow
+    (other_exact m words None name) (λ op f. subst (λ z. arguments_spelling z ≡ void_arguments z) f.is refl)
+
+abbrev pub VoidFits : Option (List ℕ) → List (List ℕ) × (VoidCallee × Operation) → Type 0
+VoidFits m p = AreWords call_words p.0 × (VoidStands p.0 p.1.0 × VoidCalleeFits m p.0 p.1.0 p.1.1)
+
+abbrev void_spelling : List (List ℕ) × (VoidCallee × Operation) → List Lexeme
+void_spelling p = map word p.0 ++ (word (codes "void") ∷ global (void_name p.1.0) ∷ void_arguments p.1.1)
+
+pub void_spelled : (m : Option (List ℕ)) (words : List (List ℕ)) (c : VoidCallee) (op : Operation) → VoidStands words c → VoidCalleeFits m words c op → words_spelling op ≡ void_spelling (words, (c, op))
+void_spelled m words VoidCallee.Assume op s f =
+    subst (λ z. words_spelling op ≡ void_spelling (z, (VoidCallee.Assume, op))) (sym s) (subst (λ z. words_spelling z ≡ void_spelling ([], (VoidCallee.Assume, z))) f.is refl)
+void_spelled m words (VoidCallee.Other name) op s f = subst (λ z. words_spelling z ≡ void_spelling (words, (VoidCallee.Other name, z))) f.is refl
+
+pub void_exact : (m : Option (List ℕ)) → Exact (void_call m) words_spelling (Made void_of (VoidFits m)) op_follow
+unfolding void_call
+void_exact m = made_exact void_of (after (words_among call_words) (void_named m)) void_spelling (VoidFits m) (λ p. op_follow p.1.1) words_spelling op_follow
+    (after_exact (words_among call_words) (void_named m) (map word) (AreWords call_words) (words_follow call_words)
+    (λ _ q. word (codes "void") ∷ global (void_name q.0) ∷ void_arguments q.1) (λ ws q. VoidStands ws q.0 × VoidCalleeFits m ws q.0 q.1) (λ _ q. op_follow q.1)
+    (words_exact call_words (codes "ccc") refl)
+    (λ ws _. skip_exact (the_word (codes "void")) (word (codes "void")) (after (one (void_after ws)) (void_callee_call m ws)) (λ q. global (void_name q.0) ∷ void_arguments q.1) (λ q. VoidStands ws q.0 × VoidCalleeFits m ws q.0 q.1) (λ q. op_follow q.1)
+    (word_exact (codes "void"))
+    (after_exact (one (void_after ws)) (void_callee_call m ws) (λ c. global (void_name c) ∷ []) (VoidStands ws) anything (λ _ op. void_arguments op) (λ c op. VoidCalleeFits m ws c op) (λ _ op. op_follow op)
+    (after_void_exact ws) (λ c _. void_callee_exact m ws c) (λ a b rest f g k. may_anything a (void_arguments b ++ rest))))
+    (λ ws q rest f g k. no_word_follows call_words ws (word (codes "void")) refl))
+    (λ p f. void_spelled m p.0 p.1.0 p.1.1 f.1.0 f.1.1) (λ p f. refl)

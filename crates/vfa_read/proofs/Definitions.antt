@@ -1,14 +1,15 @@
 -- Names are defined one after the other: how the first that is repeated stays the same.
-use Rattle.std.proofs.Common.{◌≡◌, ◌∙◌, ℕ, List, [], ◌∷◌, ◌++◌, Bool, true, false, ◌||◌, refl, ap, sym, if◌then◌else◌, Some, None, bytes_eq, append_assoc, length, length-append, ◌+◌, ◌<◌, suc, drop, get_or, drop-cons, ◌≤◌, arith, subst, unwrap_or, decimal, count_by, Result, Ok, Err, IfErr, add-one, filter_map}
+use Rattle.std.proofs.Common.{◌≡◌, ◌∙◌, ℕ, List, [], ◌∷◌, ◌++◌, Bool, true, false, ◌||◌, refl, ap, sym, if◌then◌else◌, Some, None, bytes_eq, append_assoc, length, length-append, ◌+◌, ◌<◌, suc, drop, get_or, drop-cons, ◌≤◌, arith, subst, unwrap_or, decimal, count_by, Result, Ok, Err, IfErr, add-one, filter_map, map}
 use Rattle.std.proofs.lemmas.List.Elements.{filter_map-append}
-use Rattle.vfa_ir.specs.declared.syntax.Line.{Line}
 use Rattle.std.proofs.lemmas.List.Folds.{list_any-append}
 use Rattle.std.specs.List.{list_any}
 use Rattle.std.specs.Result.{IsErrAnd}
 use Rattle.vfa_ir.specs.declared.reasons.Outside.{Outside}
-use Rattle.vfa_ir.specs.DefinedNames.{first_repeated, parameter_names, is_numbered, line_result, duplicate_of}
+use Rattle.vfa_ir.specs.DefinedNames.{first_repeated, parameter_names, is_numbered, duplicate_of}
 use Rattle.vfa_ir.specs.declared.syntax.BasicBlock.{BasicBlock}
+use Rattle.vfa_ir.specs.declared.syntax.Instruction.{Instruction}
 use Rattle.vfa_ir.specs.declared.syntax.Parameter.{Parameter}
+use Rattle.vfa_ir.specs.declared.syntax.PhiNode.{PhiNode}
 use Rattle.vfa_ir.specs.Resolution.{Scope, scope_of}
 use Rattle.vfa_ir.specs.Words.{is_among}
 use Rattle.vfa_read.specs.Resolving.{defined_in, names_of_block, names_of_blocks, only_values, one_block, no_names, joined, Left, Names, IsRepeated, IsDuplicate, tree}
@@ -122,8 +123,11 @@ item_and_rest xs i x h e =
     let k : drop (i + 1) xs ≡ drop (suc i) xs = ap (λ n. drop n xs) (add-one i) in
     drop-cons xs i x h ∙ ap (λ y. y ∷ drop (suc i) xs) (sym e) ∙ ap (λ r. x ∷ r) (sym k)
 
-abbrev pub line_names : List Line → Names
-line_names lines = only_values (filter_map line_result lines)
+abbrev pub phi_names : List PhiNode → Names
+phi_names phis = only_values (map (λ p. p.result) phis)
+
+abbrev pub instruction_names : List Instruction → Names
+instruction_names instructions = only_values (filter_map (λ i. i.result) instructions)
 
 -- where all have room, the first of what is left have
 pub room_for : (old : Scope) (names : Names) (now : Scope) (x rest : Names) (most : ℕ) → Left old names now (joined x rest)
@@ -138,9 +142,13 @@ pub err_is : {A E : Type 0} (r : Result A E) (P : E → Type 0) (f : E) → IsEr
 err_is (Ok x) P f h k = tt
 err_is (Err e) P f h k = subst P (sym h) k
 
-pub next_line : (xs : List Line) (i : ℕ) (x : Line) → i < length xs → x ≡ get_or xs i x
-    → line_names (drop i xs) ≡ joined (line_names (x ∷ [])) (line_names (drop (i + 1) xs))
-next_line xs i x h e = ap line_names (item_and_rest xs i x h e) ∙ ap only_values (filter_map-append line_result (x ∷ []) (drop (i + 1) xs))
+pub next_phi : (xs : List PhiNode) (i : ℕ) (x : PhiNode) → i < length xs → x ≡ get_or xs i x
+    → phi_names (drop i xs) ≡ joined (phi_names (x ∷ [])) (phi_names (drop (i + 1) xs))
+next_phi xs i x h e = ap phi_names (item_and_rest xs i x h e)
+
+pub next_instruction : (xs : List Instruction) (i : ℕ) (x : Instruction) → i < length xs → x ≡ get_or xs i x
+    → instruction_names (drop i xs) ≡ joined (instruction_names (x ∷ [])) (instruction_names (drop (i + 1) xs))
+next_instruction xs i x h e = ap instruction_names (item_and_rest xs i x h e) ∙ ap only_values (filter_map-append (λ i. i.result) (x ∷ []) (drop (i + 1) xs))
 
 pub next_block : (n : ℕ) (xs : List BasicBlock) (i : ℕ) (x : BasicBlock) → i < length xs → x ≡ get_or xs i x
     → names_of_blocks n (drop i xs) ≡ joined (names_of_block n x) (names_of_blocks n (drop (i + 1) xs))
@@ -210,3 +218,10 @@ duplicate_is ps bs (Outside.Unknown _) r = r
 duplicate_is ps bs (Outside.Types _) r = r
 duplicate_is ps bs (Outside.Phi _) r = r
 duplicate_is ps bs (Outside.Undefined _ _) r = r
+
+-- the results of a block: those of its phis are defined first
+pub results_left : (old mid : Scope) (xs : List PhiNode) (ys : List Instruction) → Left old (phi_names xs) mid no_names →
+    Left old (joined (phi_names xs) (instruction_names ys)) mid (joined (instruction_names ys) no_names)
+results_left old mid xs ys h =
+    let names = joined (phi_names xs) (instruction_names ys) in
+    subst (Left old names mid) (sym (whole (instruction_names ys))) (left_then old names old mid (phi_names xs) (instruction_names ys) (all_left old names) h)

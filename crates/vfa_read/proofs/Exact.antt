@@ -495,6 +495,25 @@ module _ {A : Type 0} (r s : Reader A) (spell : A → List Lexeme) (F : A → Ty
     some_fits = er.some_fits;
   }
 
+-- the same where what may follow is said otherwise
+
+may_same_test : (f g : Lexeme → Bool) → ((l : Lexeme) → f l ≡ g l) → (ts : List Lexeme) → may f ts ≡ may g ts
+may_same_test f g e [] = refl
+may_same_test f g e (l ∷ ls) = e l
+
+module _ {A : Type 0} (r : Reader A) (spell : A → List Lexeme) (F : A → Type 0) (follow other : A → Lexeme → Bool)
+    (er : Exact r spell F follow) (same : (x : A) (l : Lexeme) → follow x l ≡ other x l) where
+  pub follow_exact : Exact r spell F other
+  follow_exact = record {
+    sound = er.sound;
+    fits = er.fits;
+    ends = λ ts rest x e. sym (may_same_test (follow x) (other x) (same x) rest) ∙ er.ends ts rest x e;
+    again = λ x rest f m. er.again x rest f (may_same_test (follow x) (other x) (same x) rest ∙ m);
+    stops = er.stops;
+    some = er.some;
+    some_fits = er.some_fits;
+  }
+
 -- behind a lexeme that tells nothing, or before one
 
 bind_same : {A B : Type 0} (r : Result A ℕ) (f g : A → Result B ℕ) → ((x : A) → f x ≡ g x) → (r >>= f) ≡ (r >>= g)

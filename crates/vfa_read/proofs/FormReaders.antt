@@ -1,20 +1,19 @@
 -- Reading an operation or a terminator, behind its word, is exact.
-use Rattle.std.proofs.Common.{◌≡◌, ℕ, zero, suc, ◌≤◌, Bool, true, ◌==◌, cond, List, [], ◌∷◌, ◌++◌, drop, Option, Some, None, ◌⊎◌, ⊎_elim, decimal, bytes_eq, codes, refl, sym, ap, ◌∙◌, subst, arith, eqb-true}
+use Rattle.std.proofs.Common.{◌≡◌, ℕ, zero, suc, ◌≤◌, Bool, true, false, not, ◌==◌, cond, List, [], ◌∷◌, ◌++◌, drop, Option, Some, None, ◌⊎◌, inl, inr, ⊎_elim, decimal, bytes_eq, codes, refl, sym, ap, ◌∙◌, subst, arith, eqb-true}
 use Rattle.std.proofs.lemmas.Bool.Decides.{nat_tests}
 use Rattle.std.proofs.lemmas.Fmt.{decimal_digit}
-use Rattle.vfa_ir.specs.declared.operations.Cast.{Cast}
 use Rattle.vfa_ir.specs.declared.operations.Pred.{Pred}
 use Rattle.vfa_ir.specs.declared.syntax.Operation.{Operation}
-use Rattle.vfa_ir.specs.declared.syntax.Transfer.{Transfer}
+use Rattle.vfa_ir.specs.declared.syntax.TerminatorKind.{TerminatorKind}
 use Rattle.vfa_ir.specs.declared.syntax.Written.{Written}
 use Rattle.vfa_ir.specs.Lexemes.{Lexeme, local, number, word, mark}
 use Rattle.vfa_ir.specs.Grammar.{IsWidth, FitsValue}
 use Rattle.vfa_ir.specs.Spelling as spell
-use Rattle.vfa_ir.specs.Words.{pred_word}
-use Rattle.vfa_read.specs.Productions.{target, operands, typed_operands, compare, compare_of, select, select_of, convert, convert_of, freeze, freeze_of, pair_type, extract, extract_of, returned, return_of, condition, condition_of, branch, is_word, is_group}
+use Rattle.vfa_ir.specs.Words.{pred_word, preds}
+use Rattle.vfa_read.specs.Productions.{target, operands, typed_operands, same_sign, compare, compare_of, select, select_of, freeze, freeze_of, pair_type, extract, extract_of, returned, return_of, condition, condition_of, branch, is_word, is_group}
 use Rattle.vfa_read.specs.Readers.{Reader, one, after, made, skip, ended, next_passes}
-use Rattle.vfa_read.specs.Tables.{the_mark, the_word, the_type, local_name, type_of, value_of, word_in, preds, part_index}
-use Rattle.vfa_read.proofs.Exact.{Exact, Made, anything, may_anything, one_exact, after_exact, made_exact, choose_exact, skip_exact, ended_exact}
+use Rattle.vfa_read.specs.Tables.{the_mark, the_word, the_type, local_name, type_of, value_of, keyword_in, part_index}
+use Rattle.vfa_read.proofs.Exact.{Exact, Made, anything, may_anything, one_exact, after_exact, made_exact, choose_exact, optional_exact, skip_exact, ended_exact}
 use Rattle.vfa_read.proofs.LeafReaders.{some_is, first_or, mark_exact, word_exact, local_exact, type_exact, type_is, value_exact, pred_exact}
 use Rattle.vfa_read.proofs.Many.{follow_many}
 use Rattle.vfa_read.proofs.Words.{tested, is_width, same_text}
@@ -117,22 +116,71 @@ op_follow (Operation.Two words _ _ _ _) = group_follow words.groups
 op_follow (Operation.One words _ _ _ _) = group_follow words.groups
 op_follow (Operation.Over words _ _ _ _) = group_follow words.groups
 op_follow (Operation.Assume words _) = group_follow words.groups
+op_follow (Operation.Call words _ _ _ _) = group_follow words.groups
 op_follow _ = λ _. true
 
 abbrev pub behind : Operation → List Lexeme
 behind op = drop 1 (spell.operation op)
 
-abbrev pub ComparedFits : Pred × (ℕ × Two) → Type 0
-ComparedFits p = Unit {0} × (IsWidth p.1.0 × FitsTwo p.1.0 p.1.1)
+-- `samesign`, which may lack
+
+abbrev pub SignFits : Bool → Type 0
+SignFits b = Made {A = Unit {0}} (λ _. true) (λ _. Unit {0}) b ⊎ (b ≡ false)
+
+abbrev sign_follow : Bool → Lexeme → Bool
+sign_follow true l = true
+sign_follow false l = not (is_word (codes "samesign") l)
+
+abbrev written_sign : Reader Bool
+written_sign = made (λ _. true) (one (the_word (codes "samesign")))
+
+written_sign_exact : Exact written_sign spell.same_sign (Made {A = Unit {0}} (λ _. true) (λ _. Unit {0})) sign_follow
+written_sign_exact = made_exact (λ _. true) (one (the_word (codes "samesign"))) (λ _. word (codes "samesign") ∷ []) (λ _. Unit {0}) anything spell.same_sign sign_follow
+    (word_exact (codes "samesign")) (λ a f. refl) (λ a f. refl)
+
+same_sign_exact : Exact same_sign spell.same_sign SignFits sign_follow
+same_sign_exact = optional_exact (is_word (codes "samesign")) written_sign false spell.same_sign (Made {A = Unit {0}} (λ _. true) (λ _. Unit {0})) sign_follow
+    written_sign_exact refl refl
+    (λ b rest m. ap (λ z. next_passes (is_word (codes "samesign")) (spell.same_sign z ++ rest)) (sym m.is))
+
+pub any_sign : (b : Bool) → SignFits b
+any_sign true = inl (record { from = tt; fits = tt; is = refl })
+any_sign false = inr refl
+
+pred_no_sign : (p : Pred) → bytes_eq (pred_word p) (codes "samesign") ≡ false
+pred_no_sign Pred.Eq = refl
+pred_no_sign _ = refl
+
+pred_follows : (b : Bool) (p : Pred) → sign_follow b (word (pred_word p)) ≡ true
+pred_follows true p = refl
+pred_follows false p = ap not (pred_no_sign p)
+
+abbrev Compared : Type 0
+Compared = Pred × (ℕ × Two)
+
+abbrev compared_spelling : Compared → List Lexeme
+compared_spelling p = word (pred_word p.0) ∷ spell.type p.1.0 ∷ (spell.value p.1.1.0 ++ (mark 44 ∷ spell.value p.1.1.1))
+
+abbrev pub PredFits : Compared → Type 0
+PredFits p = Unit {0} × (IsWidth p.1.0 × FitsTwo p.1.0 p.1.1)
+
+abbrev compared : Reader Compared
+compared = after (one (keyword_in pred_word preds)) (λ _. after (one type_of) operands)
+
+compared_exact : Exact compared compared_spelling PredFits anything
+compared_exact = after_exact (one (keyword_in pred_word preds)) (λ _. after (one type_of) operands) (λ p. word (pred_word p) ∷ []) (λ _. Unit {0}) anything
+    (λ _ q. spell.type q.0 ∷ (spell.value q.1.0 ++ (mark 44 ∷ spell.value q.1.1))) (λ _ q. IsWidth q.0 × FitsTwo q.0 q.1) (λ _ q. anything q)
+    pred_exact (λ _ _. typed_exact operands (λ w p. spell.value p.0 ++ (mark 44 ∷ spell.value p.1)) FitsTwo operands_exact)
+    (λ a b rest f g m. may_anything a ((spell.type b.0 ∷ (spell.value b.1.0 ++ (mark 44 ∷ spell.value b.1.1))) ++ rest))
+
+abbrev pub ComparedFits : Bool × Compared → Type 0
+ComparedFits p = SignFits p.0 × PredFits p.1
 
 pub compare_exact : Exact compare behind (Made compare_of ComparedFits) op_follow
 unfolding compare
-compare_exact = made_exact compare_of (after (one (word_in preds)) (λ _. after (one type_of) operands))
-    (λ p. word (pred_word p.0) ∷ spell.type p.1.0 ∷ (spell.value p.1.1.0 ++ (mark 44 ∷ spell.value p.1.1.1))) ComparedFits anything behind op_follow
-    (after_exact (one (word_in preds)) (λ _. after (one type_of) operands) (λ p. word (pred_word p) ∷ []) (λ _. Unit {0}) anything
-    (λ _ q. spell.type q.0 ∷ (spell.value q.1.0 ++ (mark 44 ∷ spell.value q.1.1))) (λ _ q. IsWidth q.0 × FitsTwo q.0 q.1) (λ _ q. anything q)
-    pred_exact (λ _ _. typed_exact operands (λ w p. spell.value p.0 ++ (mark 44 ∷ spell.value p.1)) FitsTwo operands_exact)
-    (λ a b rest f g m. may_anything a ((spell.type b.0 ∷ (spell.value b.1.0 ++ (mark 44 ∷ spell.value b.1.1))) ++ rest)))
+compare_exact = made_exact compare_of (after same_sign (λ _. compared)) (λ p. spell.same_sign p.0 ++ compared_spelling p.1) ComparedFits anything behind op_follow
+    (after_exact same_sign (λ _. compared) spell.same_sign SignFits sign_follow (λ _ q. compared_spelling q) (λ _ q. PredFits q) (λ _ q. anything q)
+    same_sign_exact (λ _ _. compared_exact) (λ a b rest f g m. pred_follows a b.0))
     (λ p f. refl) (λ p f. refl)
 
 abbrev pub SelectedFits : Written × (ℕ × Two) → Type 0
@@ -156,21 +204,6 @@ pub select_exact : Exact select behind (Made select_of SelectedFits) op_follow
 unfolding select
 select_exact = made_exact select_of (skip (the_type 1) selected) (λ p. spell.type 1 ∷ selected_spelling p) SelectedFits anything behind op_follow
     (skip_exact (the_type 1) (spell.type 1) selected selected_spelling SelectedFits anything (the_type_exact 1 one_wide) selected_exact)
-    (λ p f. refl) (λ p f. refl)
-
-abbrev pub ConvertedFits : ℕ × (Written × ℕ) → Type 0
-ConvertedFits p = IsWidth p.0 × (FitsValue p.0 p.1.0 × IsWidth p.1.1)
-
-pub convert_exact : (cast : Cast) → Exact (convert cast) behind (Made (convert_of cast) ConvertedFits) op_follow
-unfolding convert
-convert_exact cast = made_exact (convert_of cast) (after (one type_of) (λ width. after (one (value_of width)) (λ _. skip (the_word (codes "to")) (one type_of))))
-    (λ p. spell.type p.0 ∷ (spell.value p.1.0 ++ (word (codes "to") ∷ spell.type p.1.1 ∷ []))) ConvertedFits anything behind op_follow
-    (typed_exact (λ width. after (one (value_of width)) (λ _. skip (the_word (codes "to")) (one type_of)))
-    (λ _ q. spell.value q.0 ++ (word (codes "to") ∷ spell.type q.1 ∷ [])) (λ w q. FitsValue w q.0 × IsWidth q.1)
-    (λ w h. after_exact (one (value_of w)) (λ _. skip (the_word (codes "to")) (one type_of)) spell.value (FitsValue w) anything
-    (λ _ t. word (codes "to") ∷ spell.type t ∷ []) (λ _ t. IsWidth t) (λ _ t. anything t) (value_exact w h)
-    (λ _ _. skip_exact (the_word (codes "to")) (word (codes "to")) (one type_of) (λ t. spell.type t ∷ []) IsWidth anything (word_exact (codes "to")) type_exact)
-    (λ a b rest f g m. may_anything a ((word (codes "to") ∷ spell.type b ∷ []) ++ rest))))
     (λ p f. refl) (λ p f. refl)
 
 abbrev pub TypedFits : ℕ × Written → Type 0
@@ -209,12 +242,12 @@ extract_exact = made_exact extract_of (after pair_type (λ _. after (one local_n
 
 -- each terminator
 
-abbrev pub behind_transfer : Transfer → List Lexeme
-behind_transfer t = drop 1 (spell.transfer t)
+abbrev pub after_terminator_word : TerminatorKind → List Lexeme
+after_terminator_word t = drop 1 (spell.terminator_kind t)
 
-pub returned_exact : Exact returned behind_transfer (Made return_of TypedFits) anything
+pub returned_exact : Exact returned after_terminator_word (Made return_of TypedFits) anything
 unfolding returned
-returned_exact = made_exact return_of (after (one type_of) (λ width. one (value_of width))) (λ p. spell.type p.0 ∷ spell.value p.1) TypedFits anything behind_transfer anything
+returned_exact = made_exact return_of (after (one type_of) (λ width. one (value_of width))) (λ p. spell.type p.0 ∷ spell.value p.1) TypedFits anything after_terminator_word anything
     (typed_exact (λ width. one (value_of width)) (λ _. spell.value) FitsValue value_exact) (λ p f. refl) (λ p f. refl)
 
 abbrev pub ConditionFits : Written × (List ℕ × List ℕ) → Type 0
@@ -235,18 +268,18 @@ conditional_exact = after_exact (one (value_of 1)) (λ _. skip (the_mark 44) (af
     (λ a b rest f g m. refl)))
     (λ a b rest f g m. may_anything a ((mark 44 ∷ (spell.target b.0 ++ (mark 44 ∷ spell.target b.1))) ++ rest))
 
-pub condition_exact : Exact condition behind_transfer (Made condition_of ConditionFits) anything
+pub condition_exact : Exact condition after_terminator_word (Made condition_of ConditionFits) anything
 unfolding condition
-condition_exact = made_exact condition_of (skip (the_type 1) conditional) (λ p. spell.type 1 ∷ conditional_spelling p) ConditionFits anything behind_transfer anything
+condition_exact = made_exact condition_of (skip (the_type 1) conditional) (λ p. spell.type 1 ∷ conditional_spelling p) ConditionFits anything after_terminator_word anything
     (skip_exact (the_type 1) (spell.type 1) conditional conditional_spelling ConditionFits anything (the_type_exact 1 one_wide) conditional_exact)
     (λ p f. refl) (λ p f. refl)
 
-always_exact : Exact (made Transfer.Always target) behind_transfer (Made Transfer.Always (λ _. Unit {0})) anything
-always_exact = made_exact Transfer.Always target spell.target (λ _. Unit {0}) anything behind_transfer anything target_exact (λ p f. refl) (λ p f. refl)
+always_exact : Exact (made TerminatorKind.Always target) after_terminator_word (Made TerminatorKind.Always (λ _. Unit {0})) anything
+always_exact = made_exact TerminatorKind.Always target spell.target (λ _. Unit {0}) anything after_terminator_word anything target_exact (λ p f. refl) (λ p f. refl)
 
-pub branch_exact : Exact branch behind_transfer (λ t. Made Transfer.Always (λ _. Unit {0}) t ⊎ Made condition_of ConditionFits t) anything
+pub branch_exact : Exact branch after_terminator_word (λ t. Made TerminatorKind.Always (λ _. Unit {0}) t ⊎ Made condition_of ConditionFits t) anything
 unfolding branch
-branch_exact = choose_exact (is_word (codes "label")) (made Transfer.Always target) condition behind_transfer (Made Transfer.Always (λ _. Unit {0})) (Made condition_of ConditionFits) anything
+branch_exact = choose_exact (is_word (codes "label")) (made TerminatorKind.Always target) condition after_terminator_word (Made TerminatorKind.Always (λ _. Unit {0})) (Made condition_of ConditionFits) anything
     always_exact condition_exact
-    (λ t rest m ok. ap (λ z. next_passes (is_word (codes "label")) (behind_transfer z ++ rest)) (sym m.is))
-    (λ t rest m ok. ap (λ z. next_passes (is_word (codes "label")) (behind_transfer z ++ rest)) (sym m.is))
+    (λ t rest m ok. ap (λ z. next_passes (is_word (codes "label")) (after_terminator_word z ++ rest)) (sym m.is))
+    (λ t rest m ok. ap (λ z. next_passes (is_word (codes "label")) (after_terminator_word z ++ rest)) (sym m.is))

@@ -10,89 +10,17 @@ use Rattle.vfa_ir.specs.Lexemes.{Lexeme, local, global, mark, word}
 use Rattle.vfa_ir.specs.Grammar.{IsWidth, FitsParameter}
 use Rattle.vfa_ir.specs.Spelling as spell
 use Rattle.vfa_ir.specs.Words.{is_among, lead_words, parameter_words}
-use Rattle.vfa_read.specs.Headers.{word_among, is_word_among, words_among, starts_name, optional_name, parameter_of, parameter, listed, further_parameters, parameters, Header, header}
-use Rattle.vfa_read.specs.Productions.{is_mark, is_any_word, same_state}
+use Rattle.vfa_read.specs.Headers.{starts_name, optional_name, parameter_of, parameter, parameters, Header, header}
+use Rattle.vfa_read.specs.Productions.{is_any_word, is_word_among, words_among}
 use Rattle.vfa_read.specs.Readers.{Reader, one, nothing, after, made, choose, skip, ended, many, next_passes, ◌>>=◌}
 use Rattle.vfa_read.specs.Tables.{the_mark, the_word, local_name, global_name, type_of}
 use Rattle.vfa_read.proofs.Exact.{Exact, Made, anything, may, may_anything, one_exact, after_exact, after_exact_with, made_exact, optional_exact, skip_exact, ended_exact, fits_exact, spelled_exact}
 use Rattle.vfa_read.proofs.LeafReaders.{mark_exact, word_exact, local_exact, global_exact, type_exact}
-use Rattle.vfa_read.proofs.LineReaders.{last_any}
-use Rattle.vfa_read.proofs.Many.{Begins, FitsFrom, follow_many, follow_last, many_exact, many_item, many_bad, many_done, shorter}
-use Rattle.vfa_read.proofs.Words.{tested, same_text}
-
--- words of a list
-
-module _ (texts : List (List ℕ)) (some : List ℕ) (some_among : IsTrue (is_among some texts)) where
-  among_is : (l : Lexeme) (x : List ℕ) → word_among texts l ≡ Some x → l ≡ word x
-  among_is (word w) x e = ap word (tested (is_among w texts) w x e).1
-  among_is _ x e = cc
-
-  among_fits : (l : Lexeme) (x : List ℕ) → word_among texts l ≡ Some x → IsTrue (is_among x texts)
-  among_fits (word w) x e = let t = tested (is_among w texts) w x e in subst (λ z. IsTrue (is_among z texts)) t.1 t.0
-  among_fits _ x e = cc
-
-  among_exact : Exact (one (word_among texts)) (λ x. word x ∷ []) (λ x. IsTrue (is_among x texts)) anything
-  among_exact = one_exact (word_among texts) word (λ x. IsTrue (is_among x texts)) among_is among_fits (λ x f. rw f refl) some some_among
-
-  word_begins : (s : Unit {0}) (x : List ℕ) → IsTrue (is_among x texts) → Begins (is_word_among texts) (word x ∷ [])
-  word_begins s x f = record { head = word x; more = []; is = refl; passes = f }
-
-  words_to : (ws : List (List ℕ)) → FitsFrom {S = Unit {0}} (λ _ w. IsTrue (is_among w texts)) same_state tt ws → AllByRecursion (λ w. IsTrue (is_among w texts)) ws
-  words_to [] f = tt
-  words_to (w ∷ ws) f = (f.0, words_to ws f.1)
-
-  words_from : (ws : List (List ℕ)) → AllByRecursion (λ w. IsTrue (is_among w texts)) ws → FitsFrom {S = Unit {0}} (λ _ w. IsTrue (is_among w texts)) same_state tt ws
-  words_from [] f = tt
-  words_from (w ∷ ws) f = (f.0, words_from ws f.1)
-
-  each_word : (ws : List (List ℕ)) → flat_map (λ x. word x ∷ []) ws ≡ map word ws
-  each_word [] = refl
-  each_word (w ∷ ws) = ap (λ z. word w ∷ z) (each_word ws)
-
-  pub words_exact : Exact (words_among texts) (map word) (All (λ w. IsTrue (is_among w texts))) (follow_many (is_word_among texts) anything)
-  unfolding words_among
-  words_exact =
-      let read = many (is_word_among texts) (λ _. one (word_among texts)) same_state tt in
-      let start = FitsFrom {S = Unit {0}} (λ _ w. IsTrue (is_among w texts)) same_state tt in
-      let P : List ℕ → Type 0 = λ w. IsTrue (is_among w texts) in
-      spelled_exact read (flat_map (λ x. word x ∷ [])) (map word) (All P) (follow_many (is_word_among texts) anything)
-      (fits_exact read (flat_map (λ x. word x ∷ [])) start (All P) (follow_many (is_word_among texts) anything)
-      (many_exact (is_word_among texts) (λ _. one (word_among texts)) same_state (λ x. word x ∷ []) (λ _ w. IsTrue (is_among w texts)) anything (λ _. among_exact) word_begins (λ x l e. refl) tt)
-      (λ ws f. All-from_recursion P ws (words_to ws f)) (λ ws f. words_from ws (recursion_from_All P ws f)))
-      (λ ws f. each_word ws)
-
-module _ (texts : List (List ℕ)) (some : List ℕ) (some_among : IsTrue (is_among some texts)) where
-  pub words_done : (ts : List Lexeme) → next_passes (is_word_among texts) ts ≡ false → words_among texts ts ≡ Ok ([], ts)
-  unfolding words_among
-  words_done ts t = many_done (is_word_among texts) (λ _. one (word_among texts)) same_state (λ x. word x ∷ []) (λ _ w. IsTrue (is_among w texts)) anything (λ _. among_exact texts some some_among) (word_begins texts some some_among) (λ x l e. refl) tt ts t
-
-  pub words_item : (ts rest : List Lexeme) (x : List ℕ) → next_passes (is_word_among texts) ts ≡ true → one (word_among texts) ts ≡ Ok (x, rest) → words_among texts ts ≡ (words_among texts rest >>= λ q. Ok (x ∷ q.0, q.1))
-  unfolding words_among
-  words_item ts rest x t e = many_item (is_word_among texts) (λ _. one (word_among texts)) same_state (λ x. word x ∷ []) (λ _ w. IsTrue (is_among w texts)) anything (λ _. among_exact texts some some_among) (word_begins texts some some_among) (λ x l e. refl) tt ts rest x t e
-
-  pub words_bad : (ts : List Lexeme) (k : ℕ) → next_passes (is_word_among texts) ts ≡ true → one (word_among texts) ts ≡ Err k → words_among texts ts ≡ Err k
-  unfolding words_among
-  words_bad ts k t e = many_bad (is_word_among texts) (λ _. one (word_among texts)) same_state (λ x. word x ∷ []) (λ _ w. IsTrue (is_among w texts)) anything (λ _. among_exact texts some some_among) (word_begins texts some some_among) (λ x l e. refl) tt ts k t e
-
-  pub word_shorter : (ts rest : List Lexeme) (x : List ℕ) → one (word_among texts) ts ≡ Ok (x, rest) → length rest < length ts
-  word_shorter ts rest x e = shorter (is_word_among texts) (λ _. one (word_among texts)) same_state (λ x. word x ∷ []) (λ _ w. IsTrue (is_among w texts)) anything (λ _. among_exact texts some some_among) (word_begins texts some some_among) (λ x l e. refl) tt ts rest x e
+use Rattle.vfa_read.proofs.CommaLists.{comma_list_exact, commas_close, commas_follow}
+use Rattle.vfa_read.proofs.WordLists.{and_both, and_first, and_last, last_any, no_letter, no_word_follows, words_exact, words_follow}
+use Rattle.vfa_read.proofs.Many.{follow_last}
 
 -- no type is a word of the header
-
-no_letter : (w : ℕ) (cs : List ℕ) → IsWidth w → bytes_eq (decimal w) (110 ∷ cs) ≡ false
-no_letter w cs h = go (bytes_eq (decimal w) (110 ∷ cs)) refl
-  where
-    no_digits : decimal w ≡ 110 ∷ cs → ⊥
-    no_digits e =
-        let low : 1 ≤ w = h.least in
-        let high : w ≤ 128 = h.most in
-        let d = digits_decimal (numerals_by_value (AllDigits 10) tells_digits) w (omega arith) in
-        let bad = (subst (AllDigits 10) e d).0 in
-        absurd (omega arith)
-
-    go : (b : Bool) → bytes_eq (decimal w) (110 ∷ cs) ≡ b → bytes_eq (decimal w) (110 ∷ cs) ≡ false
-    go true e = absurd (no_digits (same_text (decimal w) (110 ∷ cs) e))
-    go false e = e
 
 type_no_lead : (w : ℕ) → IsWidth w → is_word_among lead_words (spell.type w) ≡ false
 type_no_lead w h =
@@ -121,13 +49,10 @@ any_name None = inr refl
 any_name (Some n) = inl (record { from = n; fits = tt; is = refl })
 
 abbrev attribute_follow : List (List ℕ) → Lexeme → Bool
-attribute_follow = follow_many (is_word_among parameter_words) anything
+attribute_follow = words_follow parameter_words
 
 last_all : (ws : List (List ℕ)) (l : Lexeme) → is_word_among parameter_words l ≡ false → attribute_follow ws l ≡ true
-last_all ws l e = both (not (is_word_among parameter_words l)) (follow_last {A = List ℕ} anything ws l) (ap not e) (last_any ws l)
-  where
-    both : (a b : Bool) → a ≡ true → b ≡ true → (a && b) ≡ true
-    both a b p q = rw (p, q) refl
+last_all = no_word_follows parameter_words
 
 -- what may follow a parameter: no attribute, and where it has no name no name
 abbrev pub parameter_follow : Parameter → Lexeme → Bool
@@ -136,17 +61,6 @@ parameter_follow p l = elim p.name [ None ↦ attribute_follow p.words l && not 
 abbrev tail_follow : List (List ℕ) → Option (List ℕ) → Lexeme → Bool
 tail_follow ws None l = attribute_follow ws l && not (starts_name l)
 tail_follow ws (Some _) l = true
-
-and_first : (a b : Bool) → (a && b) ≡ true → a ≡ true
-and_first true b e = refl
-and_first false b e = cc
-
-and_last : (a b : Bool) → (a && b) ≡ true → b ≡ true
-and_last true b e = e
-and_last false b e = cc
-
-and_both : (a b : Bool) → a ≡ true → b ≡ true → (a && b) ≡ true
-and_both a b p q = rw (p, q) refl
 
 words_join : (ws : List (List ℕ)) (o : Option (List ℕ)) (rest : List Lexeme) → may (tail_follow ws o) rest ≡ true → may (attribute_follow ws) (spell.parameter_name o ++ rest) ≡ true
 words_join ws None [] m = refl
@@ -201,122 +115,28 @@ parameter_exact =
 
 -- all parameters
 
-mark_follows : (p : Parameter) (c : ℕ) → parameter_follow p (mark c) ≡ true
+pub mark_follows : (p : Parameter) (c : ℕ) → parameter_follow p (mark c) ≡ true
 mark_follows p c = go p.name
   where
     go : (o : Option (List ℕ)) → elim o as (λ _. Bool) [ None ↦ attribute_follow p.words (mark c) && true | Some _ ↦ true ] ≡ true
     go None = and_both (attribute_follow p.words (mark c)) true (last_all p.words (mark c) refl) refl
     go (Some n) = refl
 
-further_begins : (s : Unit {0}) (p : Parameter) → FitsParameter p → Begins (is_mark 44) (mark 44 ∷ spell.parameter p)
-further_begins s p f = record { head = mark 44; more = spell.parameter p; is = refl; passes = refl }
-
-comma_joins : (p : Parameter) (l : Lexeme) → is_mark 44 l ≡ true → parameter_follow p l ≡ true
-comma_joins p (mark c) e = mark_follows p c
-comma_joins p _ e = cc
-
-abbrev FurtherFit : List Parameter → Type 0
-FurtherFit = FitsFrom {S = Unit {0}} (λ _. FitsParameter) same_state tt
-
-abbrev further_follow : List Parameter → Lexeme → Bool
-further_follow = follow_many (is_mark 44) parameter_follow
-
-further_item_exact : (s : Unit {0}) → Exact (skip (the_mark 44) parameter) (λ p. mark 44 ∷ spell.parameter p) FitsParameter parameter_follow
-further_item_exact s = skip_exact (the_mark 44) (mark 44) parameter spell.parameter FitsParameter parameter_follow (mark_exact 44) parameter_exact
-
-further_exact : Exact further_parameters (flat_map (λ p. mark 44 ∷ spell.parameter p)) FurtherFit further_follow
-unfolding further_parameters
-further_exact = many_exact (is_mark 44) (λ _. skip (the_mark 44) parameter) same_state (λ p. mark 44 ∷ spell.parameter p) (λ _. FitsParameter) parameter_follow further_item_exact further_begins comma_joins tt
-
-pub parameters_done : (ts : List Lexeme) → next_passes (is_mark 44) ts ≡ false → further_parameters ts ≡ Ok ([], ts)
-unfolding further_parameters
-parameters_done ts t = many_done (is_mark 44) (λ _. skip (the_mark 44) parameter) same_state (λ p. mark 44 ∷ spell.parameter p) (λ _. FitsParameter) parameter_follow further_item_exact further_begins comma_joins tt ts t
-
-pub parameters_item : (ts rest : List Lexeme) (x : Parameter) → next_passes (is_mark 44) ts ≡ true → skip (the_mark 44) parameter ts ≡ Ok (x, rest) → further_parameters ts ≡ (further_parameters rest >>= λ q. Ok (x ∷ q.0, q.1))
-unfolding further_parameters
-parameters_item ts rest x t e = many_item (is_mark 44) (λ _. skip (the_mark 44) parameter) same_state (λ p. mark 44 ∷ spell.parameter p) (λ _. FitsParameter) parameter_follow further_item_exact further_begins comma_joins tt ts rest x t e
-
-pub parameters_bad : (ts : List Lexeme) (k : ℕ) → next_passes (is_mark 44) ts ≡ true → skip (the_mark 44) parameter ts ≡ Err k → further_parameters ts ≡ Err k
-unfolding further_parameters
-parameters_bad ts k t e = many_bad (is_mark 44) (λ _. skip (the_mark 44) parameter) same_state (λ p. mark 44 ∷ spell.parameter p) (λ _. FitsParameter) parameter_follow further_item_exact further_begins comma_joins tt ts k t e
-
-pub parameter_shorter : (ts rest : List Lexeme) (x : Parameter) → skip (the_mark 44) parameter ts ≡ Ok (x, rest) → length rest < length ts
-parameter_shorter ts rest x e = shorter (is_mark 44) (λ _. skip (the_mark 44) parameter) same_state (λ p. mark 44 ∷ spell.parameter p) (λ _. FitsParameter) parameter_follow further_item_exact further_begins comma_joins tt ts rest x e
-
-abbrev Listed : Type 0
-Listed = Parameter × List Parameter
-
-abbrev list_follow : Parameter → List Parameter → Lexeme → Bool
-list_follow p [] l = parameter_follow p l && further_follow [] l
-list_follow p (q ∷ qs) l = further_follow (q ∷ qs) l
-
-list_joins : (p : Parameter) (ps : List Parameter) (rest : List Lexeme) → may (list_follow p ps) rest ≡ true → may (parameter_follow p) (flat_map (λ q. mark 44 ∷ spell.parameter q) ps ++ rest) ≡ true
-list_joins p [] [] m = refl
-list_joins p [] (l ∷ ls) m = and_first (parameter_follow p l) (further_follow [] l) m
-list_joins p (q ∷ qs) rest m = mark_follows p 44
-
-list_second : (p : Parameter) (ps : List Parameter) (rest : List Lexeme) → may (list_follow p ps) rest ≡ true → may (further_follow ps) rest ≡ true
-list_second p [] [] m = refl
-list_second p [] (l ∷ ls) m = and_last (parameter_follow p l) (further_follow [] l) m
-list_second p (q ∷ qs) [] m = refl
-list_second p (q ∷ qs) (l ∷ ls) m = m
-
-list_both : (p : Parameter) (ps : List Parameter) (rest : List Lexeme) → may (parameter_follow p) (flat_map (λ q. mark 44 ∷ spell.parameter q) ps ++ rest) ≡ true → may (further_follow ps) rest ≡ true → may (list_follow p ps) rest ≡ true
-list_both p [] [] m k = refl
-list_both p [] (l ∷ ls) m k = and_both (parameter_follow p l) (further_follow [] l) m k
-list_both p (q ∷ qs) [] m k = refl
-list_both p (q ∷ qs) (l ∷ ls) m k = k
-
-abbrev ListedFits : Listed → Type 0
-ListedFits p = FitsParameter p.0 × FurtherFit p.1
+pub type_begins : (p : Parameter) (rest : List Lexeme) → next_passes is_any_word (spell.parameter p ++ rest) ≡ true
+type_begins p rest = refl
 
 abbrev pub parameters_follow : List Parameter → Lexeme → Bool
-parameters_follow [] l = not (is_any_word l)
-parameters_follow (p ∷ ps) l = list_follow p ps l
+parameters_follow = commas_follow parameter spell.parameter FitsParameter parameter_follow parameter_exact mark_follows is_any_word type_begins
 
 abbrev joined : List Parameter → List Lexeme
 joined = join_by spell.parameter (mark 44 ∷ [])
 
-listed_exact : Exact (made listed (after parameter (λ _. further_parameters))) joined (Made listed ListedFits) parameters_follow
-listed_exact = made_exact listed (after parameter (λ _. further_parameters)) (λ p. spell.parameter p.0 ++ flat_map (λ q. mark 44 ∷ spell.parameter q) p.1) ListedFits (λ p. list_follow p.0 p.1) joined parameters_follow
-    (after_exact_with parameter (λ _. further_parameters) spell.parameter FitsParameter parameter_follow (λ _ ps. flat_map (λ q. mark 44 ∷ spell.parameter q) ps) (λ _ ps. FurtherFit ps) (λ _ ps. further_follow ps) list_follow
-    parameter_exact (λ _ _. further_exact) (λ p ps rest f g m. list_joins p ps rest m) list_second list_both)
-    (λ p f. refl) (λ p f. refl)
-
-further_to : (ps : List Parameter) → FurtherFit ps → AllByRecursion FitsParameter ps
-further_to [] f = tt
-further_to (p ∷ ps) f = (f.0, further_to ps f.1)
-
-further_from : (ps : List Parameter) → AllByRecursion FitsParameter ps → FurtherFit ps
-further_from [] f = tt
-further_from (p ∷ ps) f = (f.0, further_from ps f.1)
-
-list_from : (ps : List Parameter) → AllByRecursion FitsParameter ps → Made listed ListedFits ps ⊎ (ps ≡ [])
-list_from [] f = inr refl
-list_from (p ∷ ps) f = inl (record { from = (p, ps); fits = (f.0, further_from ps f.1); is = refl })
-
-list_to : (ps : List Parameter) → Made listed ListedFits ps ⊎ (ps ≡ []) → AllByRecursion FitsParameter ps
-list_to ps f = ⊎_elim
-    (λ m. subst (AllByRecursion FitsParameter) m.is (m.fits.0, further_to m.from.1 m.fits.1))
-    (λ e. subst (AllByRecursion FitsParameter) (sym e) tt) f
-
 pub parameters_exact : Exact parameters joined (All FitsParameter) parameters_follow
 unfolding parameters
-parameters_exact =
-    let read = choose is_any_word (made listed (after parameter (λ _. further_parameters))) (nothing []) in
-    fits_exact read joined (λ ps. Made listed ListedFits ps ⊎ (ps ≡ [])) (All FitsParameter) parameters_follow
-    (optional_exact is_any_word (made listed (after parameter (λ _. further_parameters))) [] joined (Made listed ListedFits) parameters_follow
-    listed_exact refl refl (λ ps rest m. ap (λ z. next_passes is_any_word (joined z ++ rest)) (sym m.is)))
-    (λ ps f. All-from_recursion FitsParameter ps (list_to ps f)) (λ ps f. list_from ps (recursion_from_All FitsParameter ps f))
+parameters_exact = comma_list_exact parameter spell.parameter FitsParameter parameter_follow parameter_exact mark_follows is_any_word type_begins
 
 closes_parameters : (ps : List Parameter) → parameters_follow ps (mark 41) ≡ true
-closes_parameters [] = refl
-closes_parameters (p ∷ []) = and_both (parameter_follow p (mark 41)) (further_follow [] (mark 41)) (mark_follows p 41) refl
-closes_parameters (p ∷ q ∷ qs) = last_mark q qs
-  where
-    last_mark : (q : Parameter) (qs : List Parameter) → further_follow (q ∷ qs) (mark 41) ≡ true
-    last_mark q [] = mark_follows q 41
-    last_mark q (r ∷ rs) = last_mark r rs
+closes_parameters = commas_close parameter spell.parameter FitsParameter parameter_follow parameter_exact mark_follows is_any_word type_begins 41 refl refl
 
 -- the header
 
@@ -324,7 +144,7 @@ abbrev LeadFits : List (List ℕ) → Type 0
 LeadFits = All (λ w. IsTrue (is_among w lead_words))
 
 abbrev lead_follow : List (List ℕ) → Lexeme → Bool
-lead_follow = follow_many (is_word_among lead_words) anything
+lead_follow = words_follow lead_words
 
 lead_type : (ws : List (List ℕ)) (w : ℕ) → IsWidth w → lead_follow ws (spell.type w) ≡ true
 lead_type ws w h = and_both (not (is_word_among lead_words (spell.type w))) (follow_last {A = List ℕ} anything ws (spell.type w)) (ap not (type_no_lead w h)) (last_any ws (spell.type w))

@@ -23,7 +23,7 @@ all_false true b c h = cc
 
 pub kept_limits : (ps : List Parameter) (bs : List BasicBlock) → too_many (tree ps bs) ≡ None → Kept ps bs
 kept_limits ps bs h =
-    let no = all_false (nat_lt 4096 (length (value_names (tree ps bs)))) (nat_lt 1024 (length bs)) (list_any (λ b. nat_lt 1024 (cases_of b.terminator.transfer)) bs) h in
+    let no = all_false (nat_lt 4096 (length (value_names (tree ps bs)))) (nat_lt 1024 (length bs)) (list_any (λ b. nat_lt 1024 (cases_of b.terminator.kind)) bs) h in
     record { names = not_below 4096 _ no.0; blocks = not_below 1024 _ no.1 }
 
 pub kept_parameters : (ps : List Parameter) (bs : List BasicBlock) → too_many (tree ps bs) ≡ None → length ps ≤ 4096

@@ -8,9 +8,10 @@ use Rattle.vfa_ir.specs.declared.operations.Pred.{Pred}
 use Rattle.vfa_ir.specs.Lexemes.{Lexeme, local, global, label, metadata, group, number, word, mark}
 use Rattle.vfa_ir.specs.Grammar.{IsWidth, FitsValue, FitsLiteral}
 use Rattle.vfa_ir.specs.Spelling.{type, literal, value}
-use Rattle.vfa_ir.specs.Words.{is_digits, is_number, pred_word}
+use Rattle.vfa_ir.specs.Words.{is_digits, is_number, keyword, pred_word, preds}
+use Rattle.vfa_ir.proofs.Keywords.{keyword_spelled, pred_keyword}
 use Rattle.vfa_read.specs.Readers.{one}
-use Rattle.vfa_read.specs.Tables.{the_mark, the_word, local_name, global_name, label_name, group_digits, metadata_kind, metadata_node, lookup, word_in, type_of, literal_word, literal_of, value_of, fits_number, preds}
+use Rattle.vfa_read.specs.Tables.{the_mark, the_word, local_name, global_name, label_name, group_digits, metadata_kind, metadata_node, keyword_in, type_of, literal_word, literal_of, value_of, fits_number}
 use Rattle.vfa_read.proofs.Exact.{Exact, one_exact, spelled_exact, anything}
 use Rattle.vfa_read.proofs.Words.{same_text, same_itself, and_parts, not_parts, tested, width_is, is_width}
 use Rattle.vfa_read.proofs.NumberRanges.{fits_is, is_fits, lt_true}
@@ -120,7 +121,7 @@ type_exact = one_exact type_of type IsWidth type_is type_fits is_width 1 (record
 
 -- a literal, and a value
 
-abbrev literal_form : Literal → Lexeme
+abbrev pub literal_form : Literal → Lexeme
 literal_form (Literal.Boolean true) = word (codes "true")
 literal_form (Literal.Boolean false) = word (codes "false")
 literal_form (Literal.Number text) = number text
@@ -176,7 +177,7 @@ value_form (Written.Local name) = local name
 value_form (Written.Literal l) = literal_form l
 value_form Written.Poison = word (codes "poison")
 
-mapped : {A B : Type 0} (f : A → B) (o : Option A) (y : B) → option_map f o ≡ Some y → (x : A) × (o ≡ Some x) × (f x ≡ y)
+pub mapped : {A B : Type 0} (f : A → B) (o : Option A) (y : B) → option_map f o ≡ Some y → (x : A) × (o ≡ Some x) × (f x ≡ y)
 mapped f None y e = cc
 mapped f (Some x) y e = (x, refl, some_is (f x) y e)
 
@@ -218,37 +219,15 @@ value_exact w h = spelled_exact (one (value_of w)) (λ x. value_form x ∷ []) v
     (one_exact (value_of w) value_form (FitsValue w) (λ l x e. (value_is w l x e).form) (λ l x e. (value_is w l x e).fits) (value_again w) Written.Poison tt)
     (λ x f. value_spelling x)
 
--- a table of words
+-- a word of a table
 
-pub lookup_is : {A : Type 0} (name : A → List ℕ) (table : List (List ℕ × A)) (t : List ℕ) (x : A) → list_all (λ e. bytes_eq e.0 (name e.1)) table ≡ true → lookup table t ≡ Some x → t ≡ name x
-lookup_is name [] t x a e = cc
-lookup_is name (entry ∷ rest) t x a e =
-    let parts = and_parts (bytes_eq entry.0 (name entry.1)) (list_all (λ e. bytes_eq e.0 (name e.1)) rest) a in
-    ⊎_elim
-    (λ p. same_text t entry.0 p.0 ∙ same_text entry.0 (name entry.1) parts.0 ∙ ap name p.1)
-    (λ p. lookup_is name rest t x parts.1 p.1)
-    (first_or (bytes_eq t entry.0) entry.1 x (lookup rest t) e)
+module _ {K : Type 0} (spelled : K → List ℕ) (all : List K) (each : (k : K) → keyword spelled all (spelled k) ≡ Some k) (some : K) where
+  keyword_is : (l : Lexeme) (k : K) → keyword_in spelled all l ≡ Some k → l ≡ word (spelled k)
+  keyword_is (word t) k e = ap word (sym (same_text (spelled k) t (keyword_spelled spelled all t k e)))
+  keyword_is _ k e = cc
 
-module _ {A : Type 0} (name : A → List ℕ) (table : List (List ℕ × A)) (names : list_all (λ e. bytes_eq e.0 (name e.1)) table ≡ true)
-    (each : (x : A) → lookup table (name x) ≡ Some x) (some : A) where
-  table_is : (l : Lexeme) (x : A) → word_in table l ≡ Some x → l ≡ word (name x)
-  table_is (word t) x e = ap word (lookup_is name table t x names e)
-  table_is _ x e = cc
+  pub keyword_exact : Exact (one (keyword_in spelled all)) (λ k. word (spelled k) ∷ []) (λ _. Unit {0}) anything
+  keyword_exact = one_exact (keyword_in spelled all) (λ k. word (spelled k)) (λ _. Unit {0}) keyword_is (λ l k e. tt) (λ k f. each k) some tt
 
-  pub table_exact : Exact (one (word_in table)) (λ x. word (name x) ∷ []) (λ _. Unit {0}) anything
-  table_exact = one_exact (word_in table) (λ x. word (name x)) (λ _. Unit {0}) table_is (λ l x e. tt) (λ x f. each x) some tt
-
-pred_each : (p : Pred) → lookup preds (pred_word p) ≡ Some p
-pred_each Pred.Eq = refl
-pred_each Pred.Ne = refl
-pred_each Pred.Ugt = refl
-pred_each Pred.Uge = refl
-pred_each Pred.Ult = refl
-pred_each Pred.Ule = refl
-pred_each Pred.Sgt = refl
-pred_each Pred.Sge = refl
-pred_each Pred.Slt = refl
-pred_each Pred.Sle = refl
-
-pub pred_exact : Exact (one (word_in preds)) (λ p. word (pred_word p) ∷ []) (λ _. Unit {0}) anything
-pred_exact = table_exact pred_word preds refl pred_each Pred.Eq
+pub pred_exact : Exact (one (keyword_in pred_word preds)) (λ p. word (pred_word p) ∷ []) (λ _. Unit {0}) anything
+pred_exact = keyword_exact pred_word preds pred_keyword Pred.Eq

@@ -1,23 +1,28 @@
 -- Reading the lines of a block is exact.
-use Rattle.std.proofs.Common.{◌≡◌, ℕ, ◌<◌, Bool, true, false, ◌&&◌, List, [], ◌∷◌, ◌++◌, flat_map, length, Some, Ok, Err, ◌⊎◌, inl, inr, ⊎_elim, IsTrue, codes, refl, sym, ap, subst, append_assoc}
+use Rattle.std.proofs.Common.{◌≡◌, ℕ, ◌<◌, Bool, true, false, not, ◌&&◌, List, [], ◌∷◌, ◌++◌, flat_map, length, Some, Ok, Err, ◌⊎◌, inl, inr, ⊎_elim, IsTrue, codes, refl, sym, ap, ◌∙◌, subst, append_assoc}
+use Rattle.std.specs.List.{AllByRecursion, join_by}
+use Rattle.std.proofs.lemmas.List.Elements.{All-cons, recursion_from_All, All-from_recursion}
 use Rattle.vfa_ir.specs.declared.syntax.Attachment.{Attachment}
 use Rattle.vfa_ir.specs.declared.syntax.Incoming.{Incoming}
-use Rattle.vfa_ir.specs.declared.syntax.Line.{Line}
+use Rattle.vfa_read.specs.declared.lines.Line.{Line}
 use Rattle.vfa_ir.specs.declared.syntax.Operation.{Operation}
-use Rattle.vfa_ir.specs.declared.syntax.PhiPart.{PhiPart}
+use Rattle.vfa_read.specs.declared.phis.PhiPart.{PhiPart}
 use Rattle.vfa_ir.specs.declared.syntax.Written.{Written}
 use Rattle.vfa_ir.specs.Lexemes.{Lexeme, local, metadata, word, mark}
-use Rattle.vfa_ir.specs.Grammar.{IsWidth, FitsValue, FitsAttachment, FitsParts}
+use Rattle.vfa_ir.specs.Grammar.{IsWidth, FitsPhi, FitsValue, FitsAttachment}
 use Rattle.vfa_ir.specs.Spelling as spell
+use Rattle.vfa_read.specs.Items as items
+use Rattle.vfa_read.specs.Items.{FitsParts, attachments_of, entries_of}
 use Rattle.vfa_read.specs.Productions.{is_mark, same_state, metadata_pair, attachments, incoming, incoming_of, part_reader, phi_part, still_operands, phi_parts, phi_of, phi_rest, plain_of, plain_rest, operation}
 use Rattle.vfa_read.specs.Readers.{Reader, one, after, made, skip, ended, many, next_passes, ◌>>=◌}
 use Rattle.vfa_read.specs.Tables.{the_mark, local_name, type_of, value_of}
 use Rattle.vfa_read.proofs.Attached.{pair_exact, attachments_exact}
-use Rattle.vfa_read.proofs.Exact.{Exact, Made, anything, may, may_anything, after_exact, after_exact_with, made_exact, choose_exact, skip_exact, ended_exact, fits_exact, spelled_exact}
+use Rattle.vfa_read.proofs.Exact.{Exact, Made, anything, may, may_anything, after_exact, after_exact_with, made_exact, choose_exact, skip_exact, ended_exact, fits_exact, follow_exact, spelled_exact}
 use Rattle.vfa_read.proofs.FormReaders.{op_follow}
 use Rattle.vfa_read.proofs.LeafReaders.{mark_exact, local_exact, value_exact, type_exact}
 use Rattle.vfa_read.proofs.Many.{Begins, FitsFrom, follow_many, follow_last, many_exact, many_item, many_bad, many_done, shorter}
 use Rattle.vfa_read.proofs.OperationReaders.{DefiningFits, operation_exact}
+use Rattle.vfa_read.proofs.WordLists.{and_both, and_first, and_last, last_any}
 
 -- an operand of a phi
 
@@ -84,16 +89,16 @@ part_reader_exact w h true = fits_exact (part_reader w true) behind_comma (λ p.
 part_reader_exact w h false = fits_exact (part_reader w false) behind_comma (Made PhiPart.Attached FitsAttachment) (PartFits w false) anything attached_part
     (λ p m. subst (PartFits w false) m.is m.fits) (attached_from w)
 
-part_spelled : (p : PhiPart) → mark 44 ∷ behind_comma p ≡ spell.phi_part p
+part_spelled : (p : PhiPart) → mark 44 ∷ behind_comma p ≡ items.phi_part p
 part_spelled (PhiPart.Entry i) = refl
 part_spelled (PhiPart.Attached a) = refl
 
-phi_part_exact : (w : ℕ) → IsWidth w → (operands : Bool) → Exact (phi_part w operands) spell.phi_part (PartFits w operands) anything
+phi_part_exact : (w : ℕ) → IsWidth w → (operands : Bool) → Exact (phi_part w operands) items.phi_part (PartFits w operands) anything
 unfolding phi_part
-phi_part_exact w h operands = spelled_exact (skip (the_mark 44) (part_reader w operands)) (λ p. mark 44 ∷ behind_comma p) spell.phi_part (PartFits w operands) anything
+phi_part_exact w h operands = spelled_exact (skip (the_mark 44) (part_reader w operands)) (λ p. mark 44 ∷ behind_comma p) items.phi_part (PartFits w operands) anything
     (skip_exact (the_mark 44) (mark 44) (part_reader w operands) behind_comma (PartFits w operands) anything (mark_exact 44) (part_reader_exact w h operands)) (λ p f. part_spelled p)
 
-part_begins : (w : ℕ) (s : Bool) (p : PhiPart) → PartFits w s p → Begins (is_mark 44) (spell.phi_part p)
+part_begins : (w : ℕ) (s : Bool) (p : PhiPart) → PartFits w s p → Begins (is_mark 44) (items.phi_part p)
 part_begins w s p f = record { head = mark 44; more = behind_comma p; is = sym (part_spelled p); passes = refl }
 
 parts_from : (w : ℕ) (s : Bool) (ps : List PhiPart) → FitsParts w s ps → FitsFrom (PartFits w) still_operands s ps
@@ -106,30 +111,37 @@ parts_to w s [] f = tt
 parts_to w s (PhiPart.Entry i ∷ ps) f = (f.0.0, f.0.1, parts_to w s ps f.1)
 parts_to w s (PhiPart.Attached a ∷ ps) f = (f.0, parts_to w false ps f.1)
 
-abbrev pub parts_follow : List PhiPart → Lexeme → Bool
-parts_follow = follow_many (is_mark 44) anything
+-- no comma
+abbrev pub no_comma : {A : Type 0} → A → Lexeme → Bool
+no_comma _ l = not (is_mark 44 l)
+
+and_no_more : (a b : Bool) → b ≡ true → (a && b) ≡ a
+and_no_more true b e = e
+and_no_more false b e = refl
 
 module _ (w : ℕ) (h : IsWidth w) where
-  pub phi_parts_exact : (s : Bool) → Exact (phi_parts w s) (flat_map spell.phi_part) (FitsParts w s) parts_follow
+  pub phi_parts_exact : (s : Bool) → Exact (phi_parts w s) (flat_map items.phi_part) (FitsParts w s) no_comma
   unfolding phi_parts
-  phi_parts_exact s = fits_exact (many (is_mark 44) (phi_part w) still_operands s) (flat_map spell.phi_part) (FitsFrom (PartFits w) still_operands s) (FitsParts w s) parts_follow
-      (many_exact (is_mark 44) (phi_part w) still_operands spell.phi_part (PartFits w) anything (phi_part_exact w h) (part_begins w) (λ x l e. refl) s)
+  phi_parts_exact s = fits_exact (many (is_mark 44) (phi_part w) still_operands s) (flat_map items.phi_part) (FitsFrom (PartFits w) still_operands s) (FitsParts w s) no_comma
+      (follow_exact (many (is_mark 44) (phi_part w) still_operands s) (flat_map items.phi_part) (FitsFrom (PartFits w) still_operands s) (follow_many (is_mark 44) anything) no_comma
+      (many_exact (is_mark 44) (phi_part w) still_operands items.phi_part (PartFits w) anything (phi_part_exact w h) (part_begins w) (λ x l e. refl) s)
+      (λ ps l. and_no_more (not (is_mark 44 l)) (follow_last {A = PhiPart} anything ps l) (last_any ps l)))
       (parts_to w s) (parts_from w s)
 
   pub parts_done : (s : Bool) (ts : List Lexeme) → next_passes (is_mark 44) ts ≡ false → phi_parts w s ts ≡ Ok ([], ts)
   unfolding phi_parts
-  parts_done s ts t = many_done (is_mark 44) (phi_part w) still_operands spell.phi_part (PartFits w) anything (phi_part_exact w h) (part_begins w) (λ x l e. refl) s ts t
+  parts_done s ts t = many_done (is_mark 44) (phi_part w) still_operands items.phi_part (PartFits w) anything (phi_part_exact w h) (part_begins w) (λ x l e. refl) s ts t
 
   pub parts_item : (s : Bool) (ts rest : List Lexeme) (x : PhiPart) → next_passes (is_mark 44) ts ≡ true → phi_part w s ts ≡ Ok (x, rest) → phi_parts w s ts ≡ (phi_parts w (still_operands s x) rest >>= λ q. Ok (x ∷ q.0, q.1))
   unfolding phi_parts
-  parts_item s ts rest x t e = many_item (is_mark 44) (phi_part w) still_operands spell.phi_part (PartFits w) anything (phi_part_exact w h) (part_begins w) (λ x l e. refl) s ts rest x t e
+  parts_item s ts rest x t e = many_item (is_mark 44) (phi_part w) still_operands items.phi_part (PartFits w) anything (phi_part_exact w h) (part_begins w) (λ x l e. refl) s ts rest x t e
 
   pub parts_bad : (s : Bool) (ts : List Lexeme) (k : ℕ) → next_passes (is_mark 44) ts ≡ true → phi_part w s ts ≡ Err k → phi_parts w s ts ≡ Err k
   unfolding phi_parts
-  parts_bad s ts k t e = many_bad (is_mark 44) (phi_part w) still_operands spell.phi_part (PartFits w) anything (phi_part_exact w h) (part_begins w) (λ x l e. refl) s ts k t e
+  parts_bad s ts k t e = many_bad (is_mark 44) (phi_part w) still_operands items.phi_part (PartFits w) anything (phi_part_exact w h) (part_begins w) (λ x l e. refl) s ts k t e
 
   pub part_shorter : (s : Bool) (ts rest : List Lexeme) (x : PhiPart) → phi_part w s ts ≡ Ok (x, rest) → length rest < length ts
-  part_shorter s ts rest x e = shorter (is_mark 44) (phi_part w) still_operands spell.phi_part (PartFits w) anything (phi_part_exact w h) (part_begins w) (λ x l e. refl) s ts rest x e
+  part_shorter s ts rest x e = shorter (is_mark 44) (phi_part w) still_operands items.phi_part (PartFits w) anything (phi_part_exact w h) (part_begins w) (λ x l e. refl) s ts rest x e
 
 -- a phi, behind its word
 
@@ -140,8 +152,96 @@ abbrev pub PhiBodyFits : PhiBody → Type 0
 PhiBodyFits p = IsWidth p.0 × (FitsValue p.0 p.1.0.value × FitsParts p.0 true p.1.1)
 
 abbrev pub behind_phi : Line → List Lexeme
-behind_phi (Line.Phi p) = spell.type p.width ∷ (spell.incoming p.first ++ flat_map spell.phi_part p.parts)
+behind_phi (Line.Phi p) = spell.type p.width ∷ (join_by spell.incoming (mark 44 ∷ []) p.entries ++ spell.attachments p.attached)
 behind_phi (Line.Plain _) = []
+
+-- the operands stand before the metadata
+abbrev further : List Incoming → List Lexeme
+further = flat_map (λ i. mark 44 ∷ spell.incoming i)
+
+attached_alone : (w : ℕ) (ps : List PhiPart) → FitsParts w false ps → (entries_of ps ≡ []) × (flat_map items.phi_part ps ≡ spell.attachments (attachments_of ps))
+attached_alone w [] f = (refl, refl)
+attached_alone w (PhiPart.Entry i ∷ ps) f = let none = f.0 in cc
+attached_alone w (PhiPart.Attached a ∷ ps) f =
+    let rest = attached_alone w ps f.1 in
+    (rest.0, ap (λ z. spell.attachment a ++ z) rest.1)
+
+parts_in_order : (w : ℕ) (ps : List PhiPart) → FitsParts w true ps → flat_map items.phi_part ps ≡ further (entries_of ps) ++ spell.attachments (attachments_of ps)
+parts_in_order w [] f = refl
+parts_in_order w (PhiPart.Entry i ∷ ps) f =
+    let here : List Lexeme = mark 44 ∷ spell.incoming i in
+    ap (λ z. here ++ z) (parts_in_order w ps f.2) ∙ sym (append_assoc here (further (entries_of ps)) (spell.attachments (attachments_of ps)))
+parts_in_order w (PhiPart.Attached a ∷ ps) f =
+    let rest = attached_alone w ps f.1 in
+    ap (λ z. spell.attachment a ++ z) rest.1 ∙ ap (λ z. further z ++ (spell.attachment a ++ spell.attachments (attachments_of ps))) (sym rest.0)
+
+phi_spelled : (r : List ℕ) (p : PhiBody) → PhiBodyFits p → behind_phi (phi_of r p) ≡ spell.type p.0 ∷ (spell.incoming p.1.0 ++ flat_map items.phi_part p.1.1)
+phi_spelled r p f =
+    let first : List Lexeme = spell.incoming p.1.0 in
+    ap (λ z. spell.type p.0 ∷ z)
+    (append_assoc first (further (entries_of p.1.1)) (spell.attachments (attachments_of p.1.1)) ∙ ap (λ z. first ++ z) (sym (parts_in_order p.0 p.1.1 f.1.1)))
+
+-- what the grammar asks of a phi
+
+entries_fit : (w : ℕ) (s : Bool) (ps : List PhiPart) → FitsParts w s ps → AllByRecursion (λ i. FitsValue w i.value) (entries_of ps)
+entries_fit w s [] f = tt
+entries_fit w s (PhiPart.Entry i ∷ ps) f = (f.1, entries_fit w s ps f.2)
+entries_fit w s (PhiPart.Attached a ∷ ps) f = entries_fit w false ps f.1
+
+attachments_fit : (w : ℕ) (s : Bool) (ps : List PhiPart) → FitsParts w s ps → AllByRecursion FitsAttachment (attachments_of ps)
+attachments_fit w s [] f = tt
+attachments_fit w s (PhiPart.Entry i ∷ ps) f = attachments_fit w s ps f.2
+attachments_fit w s (PhiPart.Attached a ∷ ps) f = (f.0, attachments_fit w false ps f.1)
+
+not_empty : (i : Incoming) (rest : List Incoming) → i ∷ rest ≡ [] → ⊥
+not_empty i rest e = cc
+
+pub phi_to : (r : List ℕ) (p : PhiBody) → PhiBodyFits p →
+    FitsPhi (record { result = r; width = p.0; entries = p.1.0 ∷ entries_of p.1.1; attached = attachments_of p.1.1 })
+phi_to r p f = record {
+  width = f.0;
+  some = not_empty p.1.0 (entries_of p.1.1);
+  entries = All-cons (λ i. FitsValue p.0 i.value) p.1.0 (entries_of p.1.1) f.1.0
+      (All-from_recursion (λ i. FitsValue p.0 i.value) (entries_of p.1.1) (entries_fit p.0 true p.1.1 f.1.1));
+  attached = All-from_recursion FitsAttachment (attachments_of p.1.1) (attachments_fit p.0 true p.1.1 f.1.1);
+}
+
+-- operands, and metadata after them, xs parts
+abbrev parts_of : List Incoming → List Attachment → List PhiPart
+parts_of [] [] = []
+parts_of [] (a ∷ xs) = PhiPart.Attached a ∷ parts_of [] xs
+parts_of (i ∷ is) xs = PhiPart.Entry i ∷ parts_of is xs
+
+entries_again : (is : List Incoming) (xs : List Attachment) → entries_of (parts_of is xs) ≡ is
+entries_again [] [] = refl
+entries_again [] (a ∷ xs) = entries_again [] xs
+entries_again (i ∷ is) xs = ap (λ z. i ∷ z) (entries_again is xs)
+
+attachments_again : (is : List Incoming) (xs : List Attachment) → attachments_of (parts_of is xs) ≡ xs
+attachments_again [] [] = refl
+attachments_again [] (a ∷ xs) = ap (λ z. a ∷ z) (attachments_again [] xs)
+attachments_again (i ∷ is) xs = attachments_again is xs
+
+attached_parts_fit : (w : ℕ) (xs : List Attachment) → AllByRecursion FitsAttachment xs → FitsParts w false (parts_of [] xs)
+attached_parts_fit w [] g = tt
+attached_parts_fit w (a ∷ xs) g = (g.0, attached_parts_fit w xs g.1)
+
+parts_fit : (w : ℕ) (is : List Incoming) (xs : List Attachment) → AllByRecursion (λ i. FitsValue w i.value) is → AllByRecursion FitsAttachment xs → FitsParts w true (parts_of is xs)
+parts_fit w [] [] f g = tt
+parts_fit w [] (a ∷ xs) f g = (g.0, attached_parts_fit w xs g.1)
+parts_fit w (i ∷ is) xs f g = (refl, f.0, parts_fit w is xs f.1 g)
+
+pub phi_from : (r : List ℕ) (w : ℕ) (is : List Incoming) (xs : List Attachment) → FitsPhi (record { result = r; width = w; entries = is; attached = xs }) →
+    Made (phi_of r) PhiBodyFits (Line.Phi (record { result = r; width = w; entries = is; attached = xs }))
+phi_from r w [] xs f = absurd (f.some refl)
+phi_from r w (i ∷ is) xs f =
+    let all = recursion_from_All (λ i. FitsValue w i.value) (i ∷ is) f.entries in
+    record {
+      from = (w, (i, parts_of is xs));
+      fits = (f.width, (all.0, parts_fit w is xs all.1 (recursion_from_All FitsAttachment xs f.attached)));
+      is = ap (λ z. Line.Phi (record { result = r; width = w; entries = i ∷ z; attached = attachments_of (parts_of is xs) })) (entries_again is xs)
+          ∙ ap (λ z. Line.Phi (record { result = r; width = w; entries = i ∷ is; attached = z })) (attachments_again is xs);
+    }
 
 abbrev pub attach_follow : List Attachment → Lexeme → Bool
 attach_follow = follow_many (is_mark 44) anything
@@ -151,49 +251,34 @@ plain_follow op [] l = attach_follow [] l && op_follow op l
 plain_follow op (a ∷ xs) l = attach_follow (a ∷ xs) l
 
 abbrev pub line_follow : Line → Lexeme → Bool
-line_follow (Line.Phi p) = parts_follow p.parts
+line_follow (Line.Phi p) = no_comma p
 line_follow (Line.Plain i) = plain_follow i.operation i.attached
 
 pub phi_rest_exact : (r : List ℕ) → Exact (phi_rest r) behind_phi (Made (phi_of r) PhiBodyFits) line_follow
 unfolding phi_rest
 phi_rest_exact r = made_exact (phi_of r) (after (one type_of) (λ width. after (incoming width) (λ _. phi_parts width true)))
-    (λ p. spell.type p.0 ∷ (spell.incoming p.1.0 ++ flat_map spell.phi_part p.1.1)) PhiBodyFits (λ p. parts_follow p.1.1) behind_phi line_follow
+    (λ p. spell.type p.0 ∷ (spell.incoming p.1.0 ++ flat_map items.phi_part p.1.1)) PhiBodyFits no_comma behind_phi line_follow
     (after_exact (one type_of) (λ width. after (incoming width) (λ _. phi_parts width true)) (λ w. spell.type w ∷ []) IsWidth anything
-    (λ _ q. spell.incoming q.0 ++ flat_map spell.phi_part q.1) (λ w q. FitsValue w q.0.value × FitsParts w true q.1) (λ _ q. parts_follow q.1) type_exact
-    (λ w h. after_exact (incoming w) (λ _. phi_parts w true) spell.incoming (IncomingFits w) anything (λ _ ps. flat_map spell.phi_part ps) (λ _ ps. FitsParts w true ps) (λ _ ps. parts_follow ps)
-    (incoming_exact w h) (λ _ _. phi_parts_exact w h true) (λ a b rest f g m. may_anything a (flat_map spell.phi_part b ++ rest)))
-    (λ a b rest f g m. may_anything a ((spell.incoming b.0 ++ flat_map spell.phi_part b.1) ++ rest)))
-    (λ p f. refl) (λ p f. refl)
+    (λ _ q. spell.incoming q.0 ++ flat_map items.phi_part q.1) (λ w q. FitsValue w q.0.value × FitsParts w true q.1) (λ _ q. no_comma q) type_exact
+    (λ w h. after_exact (incoming w) (λ _. phi_parts w true) spell.incoming (IncomingFits w) anything (λ _ ps. flat_map items.phi_part ps) (λ _ ps. FitsParts w true ps) (λ _ ps. no_comma ps)
+    (incoming_exact w h) (λ _ _. phi_parts_exact w h true) (λ a b rest f g m. may_anything a (flat_map items.phi_part b ++ rest)))
+    (λ a b rest f g m. may_anything a ((spell.incoming b.0 ++ flat_map items.phi_part b.1) ++ rest)))
+    (phi_spelled r) (λ p f. refl)
 
 -- another instruction with its metadata
 
-pub last_any : {A : Type 0} (xs : List A) (l : Lexeme) → follow_last {A = A} anything xs l ≡ true
-last_any [] l = refl
-last_any (x ∷ []) l = refl
-last_any (x ∷ y ∷ ys) l = last_any (y ∷ ys) l
-
 comma_behind : (op : Operation) → op_follow op (mark 44) ≡ true
 comma_behind (Operation.Binary _ _ _ _ _) = refl
-comma_behind (Operation.Compare _ _ _ _) = refl
+comma_behind (Operation.Compare _ _ _ _ _) = refl
 comma_behind (Operation.Select _ _ _ _) = refl
-comma_behind (Operation.Convert _ _ _ _) = refl
+comma_behind (Operation.Convert _ _ _ _ _) = refl
 comma_behind (Operation.Freeze _ _) = refl
 comma_behind (Operation.Extract _ _ _) = refl
 comma_behind (Operation.Two words _ _ _ _) = last_any words.groups (mark 44)
 comma_behind (Operation.One words _ _ _ _) = last_any words.groups (mark 44)
 comma_behind (Operation.Over words _ _ _ _) = last_any words.groups (mark 44)
 comma_behind (Operation.Assume words _) = last_any words.groups (mark 44)
-
-and_first : (a b : Bool) → (a && b) ≡ true → a ≡ true
-and_first true b e = refl
-and_first false b e = cc
-
-and_last : (a b : Bool) → (a && b) ≡ true → b ≡ true
-and_last true b e = e
-and_last false b e = cc
-
-and_both : (a b : Bool) → a ≡ true → b ≡ true → (a && b) ≡ true
-and_both a b e f = rw (e, f) refl
+comma_behind (Operation.Call words _ _ _ _) = last_any words.groups (mark 44)
 
 plain_joins : (op : Operation) (xs : List Attachment) (rest : List Lexeme) → may (plain_follow op xs) rest ≡ true → may (op_follow op) (spell.attachments xs ++ rest) ≡ true
 plain_joins op [] [] m = refl

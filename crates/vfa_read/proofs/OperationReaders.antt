@@ -1,64 +1,37 @@
 -- Reading an operation and a terminator is exact for their spelling and what the grammar asks of them.
-use Rattle.std.proofs.Common.{◌≡◌, ℕ, Bool, true, false, ◌||◌, List, [], ◌∷◌, ◌++◌, Option, Some, None, ◌⊎◌, inl, inr, ⊎_elim, IsTrue, IfSome, bytes_eq, codes, refl, sym, ap, ◌∙◌, subst, true≢false}
-use Rattle.std.specs.List.{AllByRecursion, IsDistinct}
+use Rattle.std.proofs.Common.{◌≡◌, ℕ, Bool, true, false, ◌||◌, List, [], ◌∷◌, ◌++◌, append_assoc, map, Option, Some, None, ◌⊎◌, inl, inr, ⊎_elim, IsTrue, IfSome, bytes_eq, codes, refl, sym, ap, ◌∙◌, subst, true≢false}
+use Rattle.std.specs.List.{AllByRecursion, IsDistinct, join_by}
 use Rattle.std.specs.Prelude.{⊤}
-use Rattle.std.proofs.lemmas.List.Elements.{recursion_from_All, All-from_recursion}
+use Rattle.std.proofs.lemmas.List.Elements.{All-nil, recursion_from_All, All-from_recursion}
 use Rattle.vfa_ir.specs.declared.operations.Bin.{Bin}
 use Rattle.vfa_ir.specs.declared.operations.Cast.{Cast}
 use Rattle.vfa_ir.specs.declared.syntax.Operation.{Operation}
-use Rattle.vfa_ir.specs.Lexemes.{Lexeme, word}
-use Rattle.vfa_ir.specs.Grammar.{IsWidth, FitsFlags, FitsOperation}
+use Rattle.vfa_ir.specs.declared.syntax.Argument.{Argument}
+use Rattle.vfa_ir.specs.declared.syntax.CallWords.{CallWords}
+use Rattle.vfa_ir.specs.Lexemes.{Lexeme, global, group, mark, word}
+use Rattle.vfa_ir.specs.Grammar.{AreWords, IsWidth, FitsFlags, FitsOperation}
 use Rattle.vfa_ir.specs.Spelling as spell
-use Rattle.vfa_ir.specs.Words.{is_among, flags_of, bin_word, cast_word}
+use Rattle.vfa_ir.specs.Words.{call_words, cast_flags_of, is_among, flags_of, keyword}
 use Rattle.vfa_read.specs.declared.forms.Form.{Form}
 use Rattle.vfa_read.specs.declared.intrinsics.Callee.{Callee}
-use Rattle.vfa_read.specs.Productions.{call, over_of, last_of, words_of, binary_of, compare_of, select_of, convert_of, freeze_of, extract_of, marked_call, forms, form_rest, formed, operation}
+use Rattle.vfa_read.specs.declared.intrinsics.Intrinsic.{Intrinsic}
+use Rattle.vfa_read.specs.Productions.{call, over_of, last_of, words_of, binary_of, compare_of, select_of, convert_of, freeze_of, extract_of, marked_call, forms, form_rest, form_word, formed, operation}
 use Rattle.vfa_read.specs.Readers.{one, after}
-use Rattle.vfa_read.specs.Tables.{lookup, word_in, the_word}
+use Rattle.vfa_read.specs.Tables.{keyword_in, the_word}
 use Rattle.vfa_read.proofs.BinaryReaders.{OptionalFits, WrapFits, FlagsFit, BinaryFits, binary_exact}
-use Rattle.vfa_read.proofs.CallReaders.{behind_call, CalleeFits, OverFits, PlainFits, call_exact}
+use Rattle.vfa_read.proofs.CallReaders.{CalleeFits, CalleeStands, OverFits, PlainFits, call_exact, words_spelling}
+use Rattle.vfa_read.proofs.CastReaders.{CastFits, CastFlagsFit, convert_exact}
 use Rattle.vfa_read.proofs.Exact.{Exact, Made, anything, may_anything, after_exact, made_exact, skip_exact, fits_exact}
-use Rattle.vfa_read.proofs.FormReaders.{op_follow, behind, ComparedFits, compare_exact, SelectedFits, select_exact, ConvertedFits, convert_exact, TypedFits, freeze_exact, ExtractedFits, extract_exact}
-use Rattle.vfa_read.proofs.LeafReaders.{table_exact, word_exact}
+use Rattle.vfa_read.proofs.FormReaders.{any_sign, op_follow, behind, ComparedFits, compare_exact, SelectedFits, select_exact, TypedFits, freeze_exact, ExtractedFits, extract_exact}
+use Rattle.vfa_read.proofs.LeafReaders.{keyword_exact, word_exact}
 use Rattle.vfa_read.proofs.Words.{same_text, same_itself}
 
 -- the words
 
-abbrev pub form_word : Form → List ℕ
-form_word (Form.Binary bin) = bin_word bin
-form_word Form.Compare = codes "icmp"
-form_word Form.Select = codes "select"
-form_word (Form.Convert cast) = cast_word cast
-form_word Form.Freeze = codes "freeze"
-form_word Form.Extract = codes "extractvalue"
-form_word Form.Call = codes "call"
-form_word Form.Tail = codes "tail"
-form_word Form.Notail = codes "notail"
-
-form_each : (f : Form) → lookup forms (form_word f) ≡ Some f
+form_each : (f : Form) → keyword form_word forms (form_word f) ≡ Some f
 form_each (Form.Binary Bin.Add) = refl
-form_each (Form.Binary Bin.Sub) = refl
-form_each (Form.Binary Bin.Mul) = refl
-form_each (Form.Binary Bin.Shl) = refl
-form_each (Form.Binary Bin.Udiv) = refl
-form_each (Form.Binary Bin.Sdiv) = refl
-form_each (Form.Binary Bin.Lshr) = refl
-form_each (Form.Binary Bin.Ashr) = refl
-form_each (Form.Binary Bin.Urem) = refl
-form_each (Form.Binary Bin.Srem) = refl
-form_each (Form.Binary Bin.And) = refl
-form_each (Form.Binary Bin.Or) = refl
-form_each (Form.Binary Bin.Xor) = refl
-form_each Form.Compare = refl
-form_each Form.Select = refl
 form_each (Form.Convert Cast.Zext) = refl
-form_each (Form.Convert Cast.Sext) = refl
-form_each (Form.Convert Cast.Trunc) = refl
-form_each Form.Freeze = refl
-form_each Form.Extract = refl
-form_each Form.Call = refl
-form_each Form.Tail = refl
-form_each Form.Notail = refl
+form_each _ = refl
 
 -- what stands behind each
 
@@ -66,24 +39,24 @@ abbrev pub CallFits : Option (List ℕ) → Operation → Type 0
 CallFits m op = Made (over_of m) OverFits op ⊎ Made last_of (PlainFits m) op
 
 abbrev rest_spelling : Form → Operation → List Lexeme
-rest_spelling Form.Call op = behind_call op
-rest_spelling Form.Tail op = word (codes "call") ∷ behind_call op
-rest_spelling Form.Notail op = word (codes "call") ∷ behind_call op
+rest_spelling Form.Call op = words_spelling op
+rest_spelling Form.Tail op = word (codes "call") ∷ words_spelling op
+rest_spelling Form.Notail op = word (codes "call") ∷ words_spelling op
 rest_spelling _ op = behind op
 
 abbrev RestFits : Form → Operation → Type 0
 RestFits (Form.Binary bin) = Made (binary_of bin) (BinaryFits bin)
 RestFits Form.Compare = Made compare_of ComparedFits
 RestFits Form.Select = Made select_of SelectedFits
-RestFits (Form.Convert cast) = Made (convert_of cast) ConvertedFits
+RestFits (Form.Convert cast) = Made (convert_of cast) (CastFits cast)
 RestFits Form.Freeze = Made freeze_of TypedFits
 RestFits Form.Extract = Made extract_of ExtractedFits
 RestFits Form.Call = CallFits None
 RestFits Form.Tail = CallFits (Some (codes "tail"))
 RestFits Form.Notail = CallFits (Some (codes "notail"))
 
-marked_exact : (m : List ℕ) → Exact (marked_call m) (λ op. word (codes "call") ∷ behind_call op) (CallFits (Some m)) op_follow
-marked_exact m = skip_exact (the_word (codes "call")) (word (codes "call")) (call (Some m)) behind_call (CallFits (Some m)) op_follow (word_exact (codes "call")) (call_exact (Some m))
+marked_exact : (m : List ℕ) → Exact (marked_call m) (λ op. word (codes "call") ∷ words_spelling op) (CallFits (Some m)) op_follow
+marked_exact m = skip_exact (the_word (codes "call")) (word (codes "call")) (call (Some m)) words_spelling (CallFits (Some m)) op_follow (word_exact (codes "call")) (call_exact (Some m))
 
 form_rest_exact : (f : Form) → Exact (form_rest f) (rest_spelling f) (RestFits f) op_follow
 form_rest_exact (Form.Binary bin) = binary_exact bin
@@ -99,17 +72,27 @@ form_rest_exact Form.Notail = marked_exact (codes "notail")
 abbrev OpSpelled : Form → Operation → Type 0
 OpSpelled f op = spell.operation op ≡ word (form_word f) ∷ rest_spelling f op
 
-abbrev MarkedSpelled : Option (List ℕ) → Operation → Type 0
-MarkedSpelled m op = spell.operation op ≡ spell.optional_word m ++ (word (codes "call") ∷ behind_call op)
+abbrev pub MarkedSpelled : Option (List ℕ) → Operation → Type 0
+MarkedSpelled m op = spell.operation op ≡ spell.optional_word m ++ (word (codes "call") ∷ words_spelling op)
 
-callee_spelled : (m : Option (List ℕ)) (w : ℕ) (c : Callee) (op : Operation) → CalleeFits m w c op → MarkedSpelled m op
-callee_spelled m w (Callee.Two fun) op f = subst (MarkedSpelled m) f.is refl
-callee_spelled m w (Callee.One fun) op f = subst (MarkedSpelled m) f.is refl
+-- the words of a call stand before the type of its result
+pub other_spelled : (c : CallWords) (attributes : List (List ℕ)) (width : Option ℕ) (name : List ℕ) (xs : List Argument) → MarkedSpelled c.marker (Operation.Call c attributes width name xs)
+other_spelled c attributes width name xs =
+    let behind : List Lexeme = global name ∷ mark 40 ∷ (join_by spell.argument (mark 44 ∷ []) xs ++ (mark 41 ∷ map group c.groups)) in
+    ap (λ z. spell.optional_word c.marker ++ (word (codes "call") ∷ z)) (append_assoc (map word attributes) (spell.result_type width ∷ []) behind)
+
+callee_spelled : (m : Option (List ℕ)) (words : List (List ℕ)) (w : ℕ) (c : Callee) (op : Operation) → CalleeFits m words w c op → MarkedSpelled m op
+callee_spelled m words w (Callee.Known (Intrinsic.Two fun)) op f = subst (MarkedSpelled m) f.is refl
+callee_spelled m words w (Callee.Known (Intrinsic.One fun)) op f = subst (MarkedSpelled m) f.is refl
+callee_spelled m words w (Callee.Other name) op f = subst (MarkedSpelled m) f.is (other_spelled (words_of m f.from.1) words (Some w) name f.from.0)
+
+plain_spelled : (m : Option (List ℕ)) (op : Operation) → Made last_of (PlainFits m) op → MarkedSpelled m op
+plain_spelled m op p =
+    let n = p.fits.1 in
+    subst (MarkedSpelled m) p.is (subst (MarkedSpelled m) n.is (callee_spelled m p.from.0 n.from.0 n.from.1.0 n.from.1.1 n.fits.1.1))
 
 call_spelled : (m : Option (List ℕ)) (op : Operation) → CallFits m op → MarkedSpelled m op
-call_spelled m op f = ⊎_elim
-    (λ o. subst (MarkedSpelled m) o.is refl)
-    (λ p. subst (MarkedSpelled m) p.is (callee_spelled m p.from.0 p.from.1.0 p.from.1.1 p.fits.1.1)) f
+call_spelled m op f = ⊎_elim (λ o. subst (MarkedSpelled m) o.is refl) (λ p. plain_spelled m op p) f
 
 form_spelled : (f : Form) (op : Operation) → RestFits f op → OpSpelled f op
 form_spelled (Form.Binary bin) op m = subst (OpSpelled (Form.Binary bin)) m.is refl
@@ -127,9 +110,9 @@ FormedFits p = Unit {0} × RestFits p.0 p.1
 
 formed_exact : Exact operation spell.operation (Made formed FormedFits) op_follow
 unfolding operation
-formed_exact = made_exact formed (after (one (word_in forms)) form_rest) (λ p. word (form_word p.0) ∷ rest_spelling p.0 p.1) FormedFits (λ p. op_follow p.1) spell.operation op_follow
-    (after_exact (one (word_in forms)) form_rest (λ f. word (form_word f) ∷ []) (λ _. Unit {0}) anything rest_spelling RestFits (λ _ op. op_follow op)
-    (table_exact form_word forms refl form_each Form.Compare) (λ f _. form_rest_exact f) (λ a b rest f g m. may_anything a (rest_spelling a b ++ rest)))
+formed_exact = made_exact formed (after (one (keyword_in form_word forms)) form_rest) (λ p. word (form_word p.0) ∷ rest_spelling p.0 p.1) FormedFits (λ p. op_follow p.1) spell.operation op_follow
+    (after_exact (one (keyword_in form_word forms)) form_rest (λ f. word (form_word f) ∷ []) (λ _. Unit {0}) anything rest_spelling RestFits (λ _ op. op_follow op)
+    (keyword_exact form_word forms form_each Form.Compare) (λ f _. form_rest_exact f) (λ a b rest f g m. may_anything a (rest_spelling a b ++ rest)))
     (λ p f. form_spelled p.0 p.1 f.1) (λ p f. refl)
 
 -- what the grammar asks, of flags
@@ -158,11 +141,11 @@ among_second a b = let e = same_itself b in go (bytes_eq b a) e
 abbrev ListFits : List (List ℕ) → List (List ℕ) → Type 0
 ListFits fs ws = AllByRecursion (λ w. IsTrue (is_among w fs)) ws × IsDistinct bytes_eq ws
 
-flags_to : (bin : Bin) (ws : List (List ℕ)) → ListFits (flags_of bin) ws → FitsFlags bin ws
-flags_to bin ws f = record { known = All-from_recursion (λ w. IsTrue (is_among w (flags_of bin))) ws f.0; once = f.1 }
+flags_to : (allowed ws : List (List ℕ)) → ListFits allowed ws → FitsFlags allowed ws
+flags_to allowed ws f = record { known = All-from_recursion (λ w. IsTrue (is_among w allowed)) ws f.0; once = f.1 }
 
-flags_from : (bin : Bin) (ws : List (List ℕ)) → FitsFlags bin ws → ListFits (flags_of bin) ws
-flags_from bin ws f = (recursion_from_All (λ w. IsTrue (is_among w (flags_of bin))) ws f.known, f.once)
+flags_from : (allowed ws : List (List ℕ)) → FitsFlags allowed ws → ListFits allowed ws
+flags_from allowed ws f = (recursion_from_All (λ w. IsTrue (is_among w allowed)) ws f.known, f.once)
 
 abbrev wrap_words : List (List ℕ)
 wrap_words = codes "nuw" ∷ codes "nsw" ∷ []
@@ -219,17 +202,17 @@ one_word_is x a e = go (bytes_eq x a) refl
     go true p = same_text x a p
     go false p = absurd (true≢false (sym e ∙ rw p refl))
 
-exact_to : (ws : List (List ℕ)) → OptionalFits (codes "exact") ws → ListFits (codes "exact" ∷ []) ws
+one_to : (text : List ℕ) (ws : List (List ℕ)) → OptionalFits text ws → ListFits (text ∷ []) ws
 unfolding IsDistinct
-exact_to ws f = ⊎_elim
-    (λ m. subst (ListFits (codes "exact" ∷ [])) m.is ((refl, tt), (tt, tt)))
-    (λ none. subst (ListFits (codes "exact" ∷ [])) (sym none) (tt, tt)) f
+one_to text ws f = ⊎_elim
+    (λ m. subst (ListFits (text ∷ [])) m.is ((let e = same_itself text in rw e refl, tt), (tt, tt)))
+    (λ none. subst (ListFits (text ∷ [])) (sym none) (tt, tt)) f
 
-exact_from : (ws : List (List ℕ)) → ListFits (codes "exact" ∷ []) ws → OptionalFits (codes "exact") ws
+one_from : (text : List ℕ) (ws : List (List ℕ)) → ListFits (text ∷ []) ws → OptionalFits text ws
 unfolding IsDistinct
-exact_from [] f = inr refl
-exact_from (x ∷ []) f = inl (record { from = tt; fits = tt; is = ap (λ z. z ∷ []) (sym (one_word_is x (codes "exact") f.0.0)) })
-exact_from (x ∷ y ∷ ys) f = absurd (clash x y (codes "exact") (one_word_is x (codes "exact") f.0.0) (one_word_is y (codes "exact") f.0.1.0) f.1.0.0)
+one_from text [] f = inr refl
+one_from text (x ∷ []) f = inl (record { from = tt; fits = tt; is = ap (λ z. z ∷ []) (sym (one_word_is x text f.0.0)) })
+one_from text (x ∷ y ∷ ys) f = absurd (clash x y text (one_word_is x text f.0.0) (one_word_is y text f.0.1.0) f.1.0.0)
 
 none_to : (ws : List (List ℕ)) → ws ≡ [] → ListFits [] ws
 unfolding IsDistinct
@@ -239,40 +222,51 @@ none_from : (ws : List (List ℕ)) → ListFits [] ws → ws ≡ []
 none_from [] f = refl
 none_from (x ∷ xs) f = let no = f.0.0 in cc
 
-flag_fits_to : (bin : Bin) (ws : List (List ℕ)) → FlagsFit bin ws → FitsFlags bin ws
-flag_fits_to Bin.Add ws f = flags_to Bin.Add ws (wrap_to ws f)
-flag_fits_to Bin.Sub ws f = flags_to Bin.Sub ws (wrap_to ws f)
-flag_fits_to Bin.Mul ws f = flags_to Bin.Mul ws (wrap_to ws f)
-flag_fits_to Bin.Shl ws f = flags_to Bin.Shl ws (wrap_to ws f)
-flag_fits_to Bin.Udiv ws f = flags_to Bin.Udiv ws (exact_to ws f)
-flag_fits_to Bin.Sdiv ws f = flags_to Bin.Sdiv ws (exact_to ws f)
-flag_fits_to Bin.Lshr ws f = flags_to Bin.Lshr ws (exact_to ws f)
-flag_fits_to Bin.Ashr ws f = flags_to Bin.Ashr ws (exact_to ws f)
-flag_fits_to Bin.Urem ws f = flags_to Bin.Urem ws (none_to ws f)
-flag_fits_to Bin.Srem ws f = flags_to Bin.Srem ws (none_to ws f)
-flag_fits_to Bin.And ws f = flags_to Bin.And ws (none_to ws f)
-flag_fits_to Bin.Or ws f = flags_to Bin.Or ws (none_to ws f)
-flag_fits_to Bin.Xor ws f = flags_to Bin.Xor ws (none_to ws f)
+flag_fits_to : (bin : Bin) (ws : List (List ℕ)) → FlagsFit bin ws → FitsFlags (flags_of bin) ws
+flag_fits_to Bin.Add ws f = flags_to wrap_words ws (wrap_to ws f)
+flag_fits_to Bin.Sub ws f = flags_to wrap_words ws (wrap_to ws f)
+flag_fits_to Bin.Mul ws f = flags_to wrap_words ws (wrap_to ws f)
+flag_fits_to Bin.Shl ws f = flags_to wrap_words ws (wrap_to ws f)
+flag_fits_to Bin.Udiv ws f = flags_to (codes "exact" ∷ []) ws (one_to (codes "exact") ws f)
+flag_fits_to Bin.Sdiv ws f = flags_to (codes "exact" ∷ []) ws (one_to (codes "exact") ws f)
+flag_fits_to Bin.Lshr ws f = flags_to (codes "exact" ∷ []) ws (one_to (codes "exact") ws f)
+flag_fits_to Bin.Ashr ws f = flags_to (codes "exact" ∷ []) ws (one_to (codes "exact") ws f)
+flag_fits_to Bin.Urem ws f = flags_to [] ws (none_to ws f)
+flag_fits_to Bin.Srem ws f = flags_to [] ws (none_to ws f)
+flag_fits_to Bin.And ws f = flags_to [] ws (none_to ws f)
+flag_fits_to Bin.Or ws f = flags_to (codes "disjoint" ∷ []) ws (one_to (codes "disjoint") ws f)
+flag_fits_to Bin.Xor ws f = flags_to [] ws (none_to ws f)
 
-flag_fits_from : (bin : Bin) (ws : List (List ℕ)) → FitsFlags bin ws → FlagsFit bin ws
-flag_fits_from Bin.Add ws f = wrap_from ws (flags_from Bin.Add ws f)
-flag_fits_from Bin.Sub ws f = wrap_from ws (flags_from Bin.Sub ws f)
-flag_fits_from Bin.Mul ws f = wrap_from ws (flags_from Bin.Mul ws f)
-flag_fits_from Bin.Shl ws f = wrap_from ws (flags_from Bin.Shl ws f)
-flag_fits_from Bin.Udiv ws f = exact_from ws (flags_from Bin.Udiv ws f)
-flag_fits_from Bin.Sdiv ws f = exact_from ws (flags_from Bin.Sdiv ws f)
-flag_fits_from Bin.Lshr ws f = exact_from ws (flags_from Bin.Lshr ws f)
-flag_fits_from Bin.Ashr ws f = exact_from ws (flags_from Bin.Ashr ws f)
-flag_fits_from Bin.Urem ws f = none_from ws (flags_from Bin.Urem ws f)
-flag_fits_from Bin.Srem ws f = none_from ws (flags_from Bin.Srem ws f)
-flag_fits_from Bin.And ws f = none_from ws (flags_from Bin.And ws f)
-flag_fits_from Bin.Or ws f = none_from ws (flags_from Bin.Or ws f)
-flag_fits_from Bin.Xor ws f = none_from ws (flags_from Bin.Xor ws f)
+flag_fits_from : (bin : Bin) (ws : List (List ℕ)) → FitsFlags (flags_of bin) ws → FlagsFit bin ws
+flag_fits_from Bin.Add ws f = wrap_from ws (flags_from wrap_words ws f)
+flag_fits_from Bin.Sub ws f = wrap_from ws (flags_from wrap_words ws f)
+flag_fits_from Bin.Mul ws f = wrap_from ws (flags_from wrap_words ws f)
+flag_fits_from Bin.Shl ws f = wrap_from ws (flags_from wrap_words ws f)
+flag_fits_from Bin.Udiv ws f = one_from (codes "exact") ws (flags_from (codes "exact" ∷ []) ws f)
+flag_fits_from Bin.Sdiv ws f = one_from (codes "exact") ws (flags_from (codes "exact" ∷ []) ws f)
+flag_fits_from Bin.Lshr ws f = one_from (codes "exact") ws (flags_from (codes "exact" ∷ []) ws f)
+flag_fits_from Bin.Ashr ws f = one_from (codes "exact") ws (flags_from (codes "exact" ∷ []) ws f)
+flag_fits_from Bin.Urem ws f = none_from ws (flags_from [] ws f)
+flag_fits_from Bin.Srem ws f = none_from ws (flags_from [] ws f)
+flag_fits_from Bin.And ws f = none_from ws (flags_from [] ws f)
+flag_fits_from Bin.Or ws f = one_from (codes "disjoint") ws (flags_from (codes "disjoint" ∷ []) ws f)
+flag_fits_from Bin.Xor ws f = none_from ws (flags_from [] ws f)
+
+cast_fits_to : (cast : Cast) (ws : List (List ℕ)) → CastFlagsFit cast ws → FitsFlags (cast_flags_of cast) ws
+cast_fits_to Cast.Zext ws f = flags_to (codes "nneg" ∷ []) ws (one_to (codes "nneg") ws f)
+cast_fits_to Cast.Sext ws f = flags_to [] ws (none_to ws f)
+cast_fits_to Cast.Trunc ws f = flags_to wrap_words ws (wrap_to ws f)
+
+cast_fits_from : (cast : Cast) (ws : List (List ℕ)) → FitsFlags (cast_flags_of cast) ws → CastFlagsFit cast ws
+cast_fits_from Cast.Zext ws f = one_from (codes "nneg") ws (flags_from (codes "nneg" ∷ []) ws f)
+cast_fits_from Cast.Sext ws f = none_from ws (flags_from [] ws f)
+cast_fits_from Cast.Trunc ws f = wrap_from ws (flags_from wrap_words ws f)
 
 -- what the grammar asks, of operations
 
 abbrev pub IsDefining : Operation → Type 0
 IsDefining (Operation.Assume _ _) = ⊥
+IsDefining (Operation.Call _ _ None _ _) = ⊥
 IsDefining _ = ⊤
 
 abbrev pub DefiningFits : Operation → Type 0
@@ -281,20 +275,28 @@ DefiningFits op = FitsOperation op × IsDefining op
 abbrev MarkerFits : Option (List ℕ) → Type 0
 MarkerFits m = IfSome m (λ w. IsTrue (is_among w (codes "tail" ∷ codes "notail" ∷ [])))
 
-callee_to : (m : Option (List ℕ)) (w : ℕ) (c : Callee) (op : Operation) → MarkerFits m → IsWidth w → CalleeFits m w c op → DefiningFits op
-callee_to m w (Callee.Two fun) op k h f = subst DefiningFits f.is ((record { marker = k }, record { of_width = h; first = f.fits.0.0; second = f.fits.0.1 }), tt)
-callee_to m w (Callee.One fun) op k h f = subst DefiningFits f.is ((record { marker = k }, h, f.fits.0.0, f.fits.0.1), tt)
+callee_to : (m : Option (List ℕ)) (words : List (List ℕ)) (w : ℕ) (c : Callee) (op : Operation) → MarkerFits m → AreWords call_words words → IsWidth w →
+    CalleeStands words c → CalleeFits m words w c op → DefiningFits op
+callee_to m words w (Callee.Known (Intrinsic.Two fun)) op k a h s f = subst DefiningFits f.is ((record { marker = k }, record { of_width = h; first = f.fits.0.0; second = f.fits.0.1 }), tt)
+callee_to m words w (Callee.Known (Intrinsic.One fun)) op k a h s f = subst DefiningFits f.is ((record { marker = k }, h, f.fits.0.0, f.fits.0.1), tt)
+callee_to m words w (Callee.Other name) op k a h s f =
+    subst DefiningFits f.is ((record { marker = k }, record { attributes = a; result = h; callee = s; passed = f.fits.0 }), tt)
+
+plain_to : (m : Option (List ℕ)) (op : Operation) → MarkerFits m → Made last_of (PlainFits m) op → DefiningFits op
+plain_to m op k p =
+    let n = p.fits.1 in
+    subst DefiningFits p.is (subst DefiningFits n.is (callee_to m p.from.0 n.from.0 n.from.1.0 n.from.1.1 k p.fits.0 n.fits.0 n.fits.1.0 n.fits.1.1))
 
 call_to : (m : Option (List ℕ)) (op : Operation) → MarkerFits m → CallFits m op → DefiningFits op
 call_to m op k f = ⊎_elim
     (λ o. subst DefiningFits o.is ((record { marker = k }, record { of_width = o.fits.0; first = o.fits.1.1.0.0; second = o.fits.1.1.0.1 }), tt))
-    (λ p. subst DefiningFits p.is (callee_to m p.from.0 p.from.1.0 p.from.1.1 k p.fits.0 p.fits.1.1)) f
+    (λ p. plain_to m op k p) f
 
 form_to : (f : Form) (op : Operation) → RestFits f op → DefiningFits op
 form_to (Form.Binary bin) op m = subst DefiningFits m.is ((flag_fits_to bin m.from.0 m.fits.0, record { of_width = m.fits.1.0; first = m.fits.1.1.0; second = m.fits.1.1.1 }), tt)
-form_to Form.Compare op m = subst DefiningFits m.is (record { of_width = m.fits.1.0; first = m.fits.1.1.0; second = m.fits.1.1.1 }, tt)
+form_to Form.Compare op m = subst DefiningFits m.is (record { of_width = m.fits.1.1.0; first = m.fits.1.1.1.0; second = m.fits.1.1.1.1 }, tt)
 form_to Form.Select op m = subst DefiningFits m.is ((m.fits.0, record { of_width = m.fits.1.0; first = m.fits.1.1.0; second = m.fits.1.1.1 }), tt)
-form_to (Form.Convert cast) op m = subst DefiningFits m.is ((m.fits.0, m.fits.1.0, m.fits.1.1), tt)
+form_to (Form.Convert cast) op m = subst DefiningFits m.is ((cast_fits_to cast m.from.0 m.fits.0, m.fits.1.0, m.fits.1.1.0, m.fits.1.1.1), tt)
 form_to Form.Freeze op m = subst DefiningFits m.is (m.fits, tt)
 form_to Form.Extract op m = subst DefiningFits m.is ((m.fits.0, m.fits.1.1), tt)
 form_to Form.Call op m = call_to None op tt m
@@ -314,29 +316,37 @@ by_marker op f (Some t) k = ⊎_elim
     (λ e. subst (λ z. Formed (op (Some z))) (sym e) (by_form Form.Notail (op (Some (codes "notail"))) (f (Some (codes "notail")))))
     (two_words t (codes "tail") (codes "notail") k)
 
+called_fits : (m : Option (List ℕ)) (words : List (List ℕ)) (w : ℕ) (c : Callee) (op : Operation) → AreWords call_words words → IsWidth w → CalleeStands words c →
+    CalleeFits m words w c op → CallFits m op
+called_fits m words w c op a h s f =
+    inr (record { from = (words, op); fits = (a, record { from = (w, (c, op)); fits = (h, (s, f)); is = refl }); is = refl })
+
+known_fits : (m : Option (List ℕ)) (w : ℕ) (x : Intrinsic) (op : Operation) → IsWidth w → CalleeFits m [] w (Callee.Known x) op → CallFits m op
+known_fits m w x op h f = called_fits m [] w (Callee.Known x) op (All-nil (λ z. IsTrue (is_among z call_words))) h refl f
+
 form_from : (op : Operation) → DefiningFits op → Formed op
 form_from (Operation.Binary bin flags w a b) f = by_form (Form.Binary bin) (Operation.Binary bin flags w a b)
     (record { from = (flags, (w, (a, b))); fits = (flag_fits_from bin flags f.0.0, (f.0.1.of_width, (f.0.1.first, f.0.1.second))); is = refl })
-form_from (Operation.Compare pred w a b) f = by_form Form.Compare (Operation.Compare pred w a b) (record { from = (pred, (w, (a, b))); fits = (tt, (f.0.of_width, (f.0.first, f.0.second))); is = refl })
+form_from (Operation.Compare samesign pred w a b) f = by_form Form.Compare (Operation.Compare samesign pred w a b)
+    (record { from = (samesign, (pred, (w, (a, b)))); fits = (any_sign samesign, (tt, (f.0.of_width, (f.0.first, f.0.second)))); is = refl })
 form_from (Operation.Select c w a b) f = by_form Form.Select (Operation.Select c w a b) (record { from = (c, (w, (a, b))); fits = (f.0.0, (f.0.1.of_width, (f.0.1.first, f.0.1.second))); is = refl })
-form_from (Operation.Convert cast from a to) f = by_form (Form.Convert cast) (Operation.Convert cast from a to) (record { from = (from, (a, to)); fits = (f.0.0, (f.0.1, f.0.2)); is = refl })
+form_from (Operation.Convert cast flags from a to) f = by_form (Form.Convert cast) (Operation.Convert cast flags from a to)
+    (record { from = (flags, (from, (a, to))); fits = (cast_fits_from cast flags f.0.0, (f.0.1, (f.0.2, f.0.3))); is = refl })
 form_from (Operation.Freeze w a) f = by_form Form.Freeze (Operation.Freeze w a) (record { from = (w, a); fits = f.0; is = refl })
 form_from (Operation.Extract w pair index) f = by_form Form.Extract (Operation.Extract w pair index) (record { from = (w, (pair, index)); fits = (f.0.0, (tt, f.0.1)); is = refl })
 form_from (Operation.Two words fun w a b) f = by_marker (λ m. Operation.Two (words_of m words.groups) fun w a b)
-    (λ m. inr (record {
-      from = (w, (Callee.Two fun, Operation.Two (words_of m words.groups) fun w a b));
-      fits = (f.0.1.of_width, (tt, record { from = ((a, b), words.groups); fits = ((f.0.1.first, f.0.1.second), tt); is = refl }));
-      is = refl;
-    })) words.marker f.0.0.marker
+    (λ m. known_fits m w (Intrinsic.Two fun) (Operation.Two (words_of m words.groups) fun w a b) f.0.1.of_width
+        (record { from = ((a, b), words.groups); fits = ((f.0.1.first, f.0.1.second), tt); is = refl })) words.marker f.0.0.marker
 form_from (Operation.One words fun w a strict) f = by_marker (λ m. Operation.One (words_of m words.groups) fun w a strict)
-    (λ m. inr (record {
-      from = (w, (Callee.One fun, Operation.One (words_of m words.groups) fun w a strict));
-      fits = (f.0.1, (tt, record { from = ((a, strict), words.groups); fits = ((f.0.2, f.0.3), tt); is = refl }));
-      is = refl;
-    })) words.marker f.0.0.marker
+    (λ m. known_fits m w (Intrinsic.One fun) (Operation.One (words_of m words.groups) fun w a strict) f.0.1
+        (record { from = ((a, strict), words.groups); fits = ((f.0.2, f.0.3), tt); is = refl })) words.marker f.0.0.marker
 form_from (Operation.Over words over w a b) f = by_marker (λ m. Operation.Over (words_of m words.groups) over w a b)
     (λ m. inl (record { from = (w, (over, ((a, b), words.groups))); fits = (f.0.1.of_width, (tt, ((f.0.1.first, f.0.1.second), tt))); is = refl })) words.marker f.0.0.marker
 form_from (Operation.Assume words c) f = absurd f.1
+form_from (Operation.Call words attributes None name xs) f = absurd f.1
+form_from (Operation.Call words attributes (Some w) name xs) f = by_marker (λ m. Operation.Call (words_of m words.groups) attributes (Some w) name xs)
+    (λ m. called_fits m attributes w (Callee.Other name) (Operation.Call (words_of m words.groups) attributes (Some w) name xs) f.0.1.attributes f.0.1.result f.0.1.callee
+        (record { from = (xs, words.groups); fits = (f.0.1.passed, tt); is = refl })) words.marker f.0.0.marker
 
 pub operation_exact : Exact operation spell.operation DefiningFits op_follow
 operation_exact = fits_exact operation spell.operation Formed DefiningFits op_follow formed_exact

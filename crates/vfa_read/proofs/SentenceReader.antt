@@ -10,13 +10,13 @@ use Rattle.vfa_ir.specs.Reads.{IsSentence, BeginsSentence, StopsAt, IsUnfinished
 use Rattle.vfa_ir.specs.Sentence.{Sentence}
 use Rattle.vfa_ir.specs.Spelling as spell
 use Rattle.vfa_read.specs.Headers.{Header, header, tail_from, Body, body, sentence_of, sentence}
-use Rattle.vfa_read.specs.Productions.{same_state, entry_label, block_behind, further_blocks}
+use Rattle.vfa_read.specs.Productions.{same_state, entry_label, block_with, further_blocks}
 use Rattle.vfa_read.specs.Readers.{Reader, after, ended}
 use Rattle.vfa_read.specs.Tables.{the_mark}
 use Rattle.vfa_read.proofs.Exact.{Exact, Stops, Made, anything, may, may_anything, ok_value, ok_rest, after_exact, after_exact_with, made_exact, skip_exact, ended_exact, fits_exact}
 use Rattle.vfa_read.proofs.HeaderReaders.{HeaderFits, header_spelling, header_exact}
 use Rattle.vfa_read.proofs.LeafReaders.{mark_exact}
-use Rattle.vfa_read.proofs.LineReaders.{last_any}
+use Rattle.vfa_read.proofs.WordLists.{and_both, and_first, and_last, last_any}
 use Rattle.vfa_read.proofs.Many.{FitsFrom}
 use Rattle.vfa_read.proofs.TailReader.{TailFits, tail_follow, tail_exact}
 use Rattle.vfa_read.proofs.WholeBlocks.{LabelledFits, block_follow, blocks_follow, further_exact, EntryFits, entry_exact}
@@ -38,22 +38,11 @@ abbrev body_follow : BasicBlock → List BasicBlock → Lexeme → Bool
 body_follow b [] l = block_follow b l && blocks_follow [] l
 body_follow b (c ∷ cs) l = blocks_follow (c ∷ cs) l
 
-and_first : (a b : Bool) → (a && b) ≡ true → a ≡ true
-and_first true b e = refl
-and_first false b e = cc
-
-and_last : (a b : Bool) → (a && b) ≡ true → b ≡ true
-and_last true b e = e
-and_last false b e = cc
-
-and_both : (a b : Bool) → a ≡ true → b ≡ true → (a && b) ≡ true
-and_both a b p q = rw (p, q) refl
-
 body_joins : (b : BasicBlock) (bs : List BasicBlock) (rest : List Lexeme) → FurtherFit bs → may (body_follow b bs) rest ≡ true → may (block_follow b) (flat_map spell.block bs ++ rest) ≡ true
 body_joins b [] [] f m = refl
 body_joins b [] (l ∷ ls) f m = and_first (block_follow b l) (blocks_follow [] l) m
 body_joins b (c ∷ cs) rest f m =
-    ap (λ z. may (block_follow b) (((spell.block_label z ++ (flat_map spell.line c.lines ++ spell.terminator c.terminator)) ++ flat_map spell.block cs) ++ rest)) (sym f.0.0.is)
+    ap (λ z. may (block_follow b) (((spell.block_label z ++ (flat_map spell.phi c.phis ++ (flat_map spell.instruction c.instructions ++ spell.terminator c.terminator))) ++ flat_map spell.block cs) ++ rest)) (sym f.0.0.is)
     ∙ last_any b.terminator.attached (spell_label f.0.0.from)
   where
     spell_label : List ℕ → Lexeme
@@ -76,10 +65,10 @@ brace_follows b [] = and_both (block_follow b (mark 125)) (blocks_follow [] (mar
 brace_follows b (c ∷ cs) = last_brace (c ∷ cs)
 
 abbrev blocks : Reader Body
-blocks = after (block_behind entry_label) (λ _. further_blocks)
+blocks = after (block_with entry_label) (λ _. further_blocks)
 
 blocks_exact : Exact blocks (λ p. spell.block p.0 ++ flat_map spell.block p.1) BodyFits (λ p. body_follow p.0 p.1)
-blocks_exact = after_exact_with (block_behind entry_label) (λ _. further_blocks) spell.block EntryFits block_follow (λ _ bs. flat_map spell.block bs) (λ _ bs. FurtherFit bs) (λ _ bs. blocks_follow bs) body_follow
+blocks_exact = after_exact_with (block_with entry_label) (λ _. further_blocks) spell.block EntryFits block_follow (λ _ bs. flat_map spell.block bs) (λ _ bs. FurtherFit bs) (λ _ bs. blocks_follow bs) body_follow
     entry_exact (λ _ _. further_exact) (λ b bs rest f g m. body_joins b bs rest g m) body_second body_both
 
 abbrev pub body_spelling : Body → List Lexeme

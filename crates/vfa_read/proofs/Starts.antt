@@ -5,7 +5,7 @@ use Rattle.vfa_ir.specs.Lexemes.{local, global, label, nameless_local, nameless_
 use Rattle.vfa_ir.specs.TokenLexemes.{named}
 use Rattle.vfa_read.specs.Headers.{starts_name}
 use Rattle.vfa_read.specs.Productions.{starts_line, starts_label}
-use Rattle.vfa_read.specs.Trees.{open_behind}
+use Rattle.vfa_read.specs.Trees.{open_after}
 
 pub local_starts : (o : Option (List ℕ)) → starts_line (named local nameless_local o) ≡ true
 local_starts None = refl
@@ -33,14 +33,14 @@ pub label_follows : (o : Option (List ℕ)) → may_follow_parameters (named lab
 label_follows None = refl
 label_follows (Some name) = refl
 
-pub local_opens : (n : ℕ) (o : Option (List ℕ)) → open_behind n (named local nameless_local o) ≡ Some n
+pub local_opens : (n : ℕ) (o : Option (List ℕ)) → open_after n (named local nameless_local o) ≡ Some n
 local_opens n None = refl
 local_opens n (Some name) = refl
 
-pub global_opens : (n : ℕ) (o : Option (List ℕ)) → open_behind n (named global nameless_global o) ≡ Some n
+pub global_opens : (n : ℕ) (o : Option (List ℕ)) → open_after n (named global nameless_global o) ≡ Some n
 global_opens n None = refl
 global_opens n (Some name) = refl
 
-pub label_opens : (n : ℕ) (o : Option (List ℕ)) → open_behind n (named label nameless_label o) ≡ Some n
+pub label_opens : (n : ℕ) (o : Option (List ℕ)) → open_after n (named label nameless_label o) ≡ Some n
 label_opens n None = refl
 label_opens n (Some name) = refl

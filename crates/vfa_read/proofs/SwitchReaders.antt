@@ -12,7 +12,7 @@ use Rattle.vfa_read.specs.Tables.{the_mark, the_type, type_of, value_of, literal
 use Rattle.vfa_read.proofs.Exact.{Exact, Made, anything, may_anything, after_exact, made_exact, skip_exact, ended_exact, fits_exact}
 use Rattle.vfa_read.proofs.LeafReaders.{mark_exact, value_exact, literal_exact}
 use Rattle.vfa_read.proofs.Many.{Begins, FitsFrom, follow_many, many_exact, many_item, many_bad, many_done, shorter}
-use Rattle.vfa_read.proofs.FormReaders.{behind_transfer, the_type_exact, typed_exact, target_exact}
+use Rattle.vfa_read.proofs.FormReaders.{after_terminator_word, the_type_exact, typed_exact, target_exact}
 
 -- the cases
 
@@ -90,10 +90,10 @@ SwitchFits p = IsWidth p.0 × (FitsValue p.0 p.1.0 × (Unit {0} × CasesFit p.0 
 abbrev rest_spelling : ℕ → Rest → List Lexeme
 rest_spelling w q = spell.value q.0 ++ (mark 44 ∷ (spell.target q.1.0 ++ (mark 91 ∷ (flat_map (spell.switch_case w) q.1.1 ++ (mark 93 ∷ [])))))
 
-pub switch_exact : Exact switch behind_transfer (Made switch_of SwitchFits) anything
+pub switch_exact : Exact switch after_terminator_word (Made switch_of SwitchFits) anything
 unfolding switch
 switch_exact = made_exact switch_of (after (one type_of) (λ width. after (one (value_of width)) (λ _. skip (the_mark 44) (after target (λ _. closed_cases width)))))
-    (λ p. spell.type p.0 ∷ rest_spelling p.0 p.1) SwitchFits anything behind_transfer anything
+    (λ p. spell.type p.0 ∷ rest_spelling p.0 p.1) SwitchFits anything after_terminator_word anything
     (typed_exact (λ width. after (one (value_of width)) (λ _. skip (the_mark 44) (after target (λ _. closed_cases width)))) rest_spelling
     (λ w q. FitsValue w q.0 × (Unit {0} × CasesFit w q.1.1))
     (λ w h. after_exact (one (value_of w)) (λ _. skip (the_mark 44) (after target (λ _. closed_cases w))) spell.value (FitsValue w) anything

@@ -6,7 +6,7 @@ use Rattle.vfa_ir.specs.Grammar.{may_follow_parameters}
 use Rattle.vfa_ir.specs.Lexemes.{Lexeme, local, global, label, nameless_local, nameless_global, nameless_label, metadata, group, number, mark, word, string, other}
 use Rattle.vfa_read.specs.Headers.{tail_from, tail_end}
 use Rattle.vfa_read.specs.Readers.{next_passes}
-use Rattle.vfa_read.specs.Trees.{between, open_behind}
+use Rattle.vfa_read.specs.Trees.{between, open_after}
 use Rattle.vfa_read.proofs.Loops.{with_front, front_none, front_done, front_item, front_bad}
 use Rattle.vfa_read.proofs.TailReader.{tail_more, tail_closed, tail_done}
 
@@ -43,7 +43,7 @@ none_some e = cc
 same_depth : (depth next at : ℕ) → ◌≡◌ {A = Option ℕ} (Some depth) (Some next) → depth ≤ at → next ≤ at + 1
 same_depth depth next at e h = let k = some_same e in omega arith
 
-deeper : (depth next at : ℕ) (l : Lexeme) → open_behind depth l ≡ Some next → depth ≤ at → next ≤ at + 1
+deeper : (depth next at : ℕ) (l : Lexeme) → open_after depth l ≡ Some next → depth ≤ at → next ≤ at + 1
 deeper depth next at (local x) e h = same_depth depth next at e h
 deeper depth next at (global x) e h = same_depth depth next at e h
 deeper depth next at (label x) e h = same_depth depth next at e h
@@ -59,23 +59,23 @@ deeper depth next at (mark c) e h = go (c == 40) refl (c == 41) refl (depth == 0
   where
     go : (a : Bool) → (c == 40) ≡ a → (b : Bool) → (c == 41) ≡ b → (z : Bool) → (depth == 0) ≡ z → next ≤ at + 1
     go true a b p z q =
-        let o : open_behind depth (mark c) ≡ Some (depth + 1) = rw a refl in
+        let o : open_after depth (mark c) ≡ Some (depth + 1) = rw a refl in
         let k = some_same (sym o ∙ e) in
         omega arith
     go false a true b true z =
-        let o : open_behind depth (mark c) ≡ None = rw (a, b, z) refl in
+        let o : open_after depth (mark c) ≡ None = rw (a, b, z) refl in
         absurd (none_some (sym o ∙ e))
     go false a true b false z =
-        let o : open_behind depth (mark c) ≡ Some (depth - 1) = rw (a, b, z) refl in
+        let o : open_after depth (mark c) ≡ Some (depth - 1) = rw (a, b, z) refl in
         let k = some_same (sym o ∙ e) in
         omega arith
     go false a false b z q =
-        let o : open_behind depth (mark c) ≡ Some depth = rw (a, b) refl in
+        let o : open_after depth (mark c) ≡ Some depth = rw (a, b) refl in
         let k = some_same (sym o ∙ e) in
         omega arith
 deeper depth next at other e h = same_depth depth next at e h
 
-pub reached_next : (all : List Lexeme) (from at depth next : ℕ) (l : Lexeme) → may_follow_parameters l ≡ true → drop at all ≡ l ∷ drop (at + 1) all → open_behind depth l ≡ Some next → Reached all from at depth → Reached all from (at + 1) next
+pub reached_next : (all : List Lexeme) (from at depth next : ℕ) (l : Lexeme) → may_follow_parameters l ≡ true → drop at all ≡ l ∷ drop (at + 1) all → open_after depth l ≡ Some next → Reached all from at depth → Reached all from (at + 1) next
 reached_next all from at depth next l f e o r =
     let front = between from at all in
     let item = ap (tail_from depth) e ∙ tail_more l depth next (drop (at + 1) all) f o in
@@ -100,7 +100,7 @@ reached_open all from at depth z f r =
     let ended : tail_end depth (drop at all) ≡ Err (length (drop at all)) = rw closed refl in
     sym r.is ∙ front_bad (between from at all) (length (drop at all)) (tail_from depth (drop at all)) (tail_done (drop at all) depth f ∙ ended)
 
-pub reached_closed : (all : List Lexeme) (from at depth : ℕ) (l : Lexeme) → may_follow_parameters l ≡ true → drop at all ≡ l ∷ drop (at + 1) all → open_behind depth l ≡ None → Reached all from at depth → tail_from 0 (drop from all) ≡ Err (length (drop at all))
+pub reached_closed : (all : List Lexeme) (from at depth : ℕ) (l : Lexeme) → may_follow_parameters l ≡ true → drop at all ≡ l ∷ drop (at + 1) all → open_after depth l ≡ None → Reached all from at depth → tail_from 0 (drop from all) ≡ Err (length (drop at all))
 reached_closed all from at depth l f e o r =
     let here = ap (tail_from depth) e ∙ tail_closed l depth (drop (at + 1) all) f o ∙ ap Err (ap length (sym e)) in
     sym r.is ∙ front_bad (between from at all) (length (drop at all)) (tail_from depth (drop at all)) here

@@ -6,7 +6,7 @@ use Rattle.vfa_ir.specs.Lexemes.{Lexeme, local, global, label, nameless_local, n
 use Rattle.vfa_ir.specs.Grammar.{may_follow_parameters, is_balanced}
 use Rattle.vfa_read.specs.Headers.{Place, opens, closes, stands, leaves, place_of, with_lexeme, tail_end, tail_from}
 use Rattle.vfa_read.specs.Readers.{next_passes}
-use Rattle.vfa_read.specs.Trees.{open_behind}
+use Rattle.vfa_read.specs.Trees.{open_after}
 use Rattle.vfa_read.proofs.Exact.{Exact, Stops, may, made_err, ok_value, ok_rest}
 use Rattle.vfa_read.proofs.Words.{and_parts}
 
@@ -270,7 +270,7 @@ abbrev Next : ℕ → Lexeme → List Lexeme → Option ℕ → Type 0
 Next n l ls None = tail_from n (l ∷ ls) ≡ Err (suc (length ls))
 Next n l ls (Some m) = tail_from n (l ∷ ls) ≡ with_lexeme l (tail_from m ls)
 
-next_mark : (c n : ℕ) (ls : List Lexeme) → may_follow_parameters (mark c) ≡ true → Next n (mark c) ls (open_behind n (mark c))
+next_mark : (c n : ℕ) (ls : List Lexeme) → may_follow_parameters (mark c) ≡ true → Next n (mark c) ls (open_after n (mark c))
 next_mark c n ls f = go (c == 40) refl (c == 41) refl
   where
     closes_by : (n : ℕ) → (c == 40) ≡ false → (c == 41) ≡ true → Next n (mark c) ls (if n == 0 then None else Some (n - 1))
@@ -281,18 +281,18 @@ next_mark c n ls f = go (c == 40) refl (c == 41) refl
         let e : (if suc m == 0 then None else Some (suc m - 1)) ≡ Some m = rw (z, less) refl in
         subst (Next (suc m) (mark c) ls) (sym e) (step_closes (mark c) ls m (rw (a, b) refl))
 
-    go : (a : Bool) → (c == 40) ≡ a → (b : Bool) → (c == 41) ≡ b → Next n (mark c) ls (open_behind n (mark c))
+    go : (a : Bool) → (c == 40) ≡ a → (b : Bool) → (c == 41) ≡ b → Next n (mark c) ls (open_after n (mark c))
     go true a b q =
-        let e : open_behind n (mark c) ≡ Some (n + 1) = rw a refl in
+        let e : open_after n (mark c) ≡ Some (n + 1) = rw a refl in
         subst (Next n (mark c) ls) (sym e) (step_opens (mark c) ls n (rw a refl) ∙ ap (λ z. with_lexeme (mark c) (tail_from z ls)) (sym (add-one n)))
     go false a true b =
-        let e : open_behind n (mark c) ≡ (if n == 0 then None else Some (n - 1)) = rw (a, b) refl in
+        let e : open_after n (mark c) ≡ (if n == 0 then None else Some (n - 1)) = rw (a, b) refl in
         subst (Next n (mark c) ls) (sym e) (closes_by n a b)
     go false a false b =
-        let e : open_behind n (mark c) ≡ Some n = rw (a, b) refl in
+        let e : open_after n (mark c) ≡ Some n = rw (a, b) refl in
         subst (Next n (mark c) ls) (sym e) (step_stands (mark c) ls n (rw (a, b, f) refl))
 
-next : (l : Lexeme) (n : ℕ) (ls : List Lexeme) → may_follow_parameters l ≡ true → Next n l ls (open_behind n l)
+next : (l : Lexeme) (n : ℕ) (ls : List Lexeme) → may_follow_parameters l ≡ true → Next n l ls (open_after n l)
 next (local x) n ls f = step_stands (local x) ls n refl
 next (global x) n ls f = step_stands (global x) ls n refl
 next (label x) n ls f = step_stands (label x) ls n refl
@@ -307,10 +307,10 @@ next string n ls f = step_stands string ls n refl
 next (mark c) n ls f = next_mark c n ls f
 next other n ls f = cc
 
-pub tail_more : (l : Lexeme) (n m : ℕ) (ls : List Lexeme) → may_follow_parameters l ≡ true → open_behind n l ≡ Some m → tail_from n (l ∷ ls) ≡ with_lexeme l (tail_from m ls)
+pub tail_more : (l : Lexeme) (n m : ℕ) (ls : List Lexeme) → may_follow_parameters l ≡ true → open_after n l ≡ Some m → tail_from n (l ∷ ls) ≡ with_lexeme l (tail_from m ls)
 tail_more l n m ls f e = subst (Next n l ls) e (next l n ls f)
 
-pub tail_closed : (l : Lexeme) (n : ℕ) (ls : List Lexeme) → may_follow_parameters l ≡ true → open_behind n l ≡ None → tail_from n (l ∷ ls) ≡ Err (suc (length ls))
+pub tail_closed : (l : Lexeme) (n : ℕ) (ls : List Lexeme) → may_follow_parameters l ≡ true → open_after n l ≡ None → tail_from n (l ∷ ls) ≡ Err (suc (length ls))
 tail_closed l n ls f e = subst (Next n l ls) e (next l n ls f)
 
 pub tail_done : (ts : List Lexeme) (n : ℕ) → next_passes may_follow_parameters ts ≡ false → tail_from n ts ≡ tail_end n ts

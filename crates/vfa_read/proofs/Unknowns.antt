@@ -5,10 +5,9 @@ use Rattle.std.proofs.lemmas.List.{map-append}
 use Rattle.std.proofs.lemmas.List.Elements.{filter_map-append}
 use Rattle.std.specs.Result.{IsErrAnd}
 use Rattle.vfa_ir.specs.declared.reasons.Outside.{Outside}
-use Rattle.vfa_ir.specs.DefinedNames.{Use, is_known, used_name, part_entry}
-use Rattle.vfa_ir.specs.declared.syntax.PhiPart.{PhiPart}
+use Rattle.vfa_ir.specs.DefinedNames.{Use, is_known, used_name}
 use Rattle.vfa_ir.specs.Resolution.{Scope}
-use Rattle.vfa_read.specs.Resolving.{entry_uses, unknown_in, IsUnknown, Resolves}
+use Rattle.vfa_read.specs.Resolving.{unknown_in, IsUnknown, Resolves}
 
 pub known_then : (scope : Scope) (us ws : List Use) → unknown_in scope us ≡ None → unknown_in scope (us ++ ws) ≡ unknown_in scope ws
 known_then scope [] ws h = refl
@@ -98,10 +97,3 @@ pub unknown_is : {A : Type 0} (scope : Scope) (uses : List Use) (r : Result A Ou
     → IfErr r (IsUnknown (unknown_in scope uses))
 unknown_is scope uses (Ok y) f h k = absurd h
 unknown_is scope uses (Err e) f h k = subst (IsUnknown (unknown_in scope uses)) (sym h) k
-
--- the entries of parts, and what the lines of each kind give, one list behind the other
-pub uses_of_parts_split : (a b : List PhiPart) → flat_map entry_uses (filter_map part_entry (a ++ b)) ≡ flat_map entry_uses (filter_map part_entry a) ++ flat_map entry_uses (filter_map part_entry b)
-uses_of_parts_split a b = ap (flat_map entry_uses) (filter_map-append part_entry a b) ∙ flat_map-append entry_uses (filter_map part_entry a) (filter_map part_entry b)
-
-pub chosen_split : {X Y Z : Type 0} (g : Y → Z) (h : X → Option Y) (a b : List X) → map g (filter_map h (a ++ b)) ≡ map g (filter_map h a) ++ map g (filter_map h b)
-chosen_split g h a b = ap (map g) (filter_map-append h a b) ∙ map-append g (filter_map h a) (filter_map h b)

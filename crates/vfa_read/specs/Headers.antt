@@ -5,22 +5,10 @@ use Rattle.vfa_ir.specs.declared.syntax.Parameter.{Parameter}
 use Rattle.vfa_ir.specs.Grammar.{may_follow_parameters}
 use Rattle.vfa_ir.specs.Lexemes.{Lexeme, local, nameless_local, mark, word}
 use Rattle.vfa_ir.specs.Sentence.{Sentence}
-use Rattle.vfa_ir.specs.Words.{is_among, lead_words, parameter_words}
-use Rattle.vfa_read.specs.Productions.{is_mark, is_any_word, same_state, entry_label, block_behind, further_blocks}
+use Rattle.vfa_ir.specs.Words.{lead_words, parameter_words}
+use Rattle.vfa_read.specs.Productions.{is_any_word, words_among, comma_list, entry_label, block_with, further_blocks}
 use Rattle.vfa_read.specs.Readers.{Reader, one, nothing, after, made, choose, skip, ended, many, ◌>>=◌}
 use Rattle.vfa_read.specs.Tables.{the_mark, the_word, local_name, global_name, type_of}
-
--- words of a list
-abbrev pub word_among : List (List ℕ) → Lexeme → Option (List ℕ)
-word_among texts (word w) = if is_among w texts then Some w else None
-word_among texts _ = None
-
-abbrev pub is_word_among : List (List ℕ) → Lexeme → Bool
-is_word_among texts (word w) = is_among w texts
-is_word_among texts _ = false
-
-unfoldable pub words_among : List (List ℕ) → Reader (List (List ℕ))
-words_among texts = many (is_word_among texts) (λ _. one (word_among texts)) same_state tt
 
 -- a parameter
 abbrev pub starts_name : Lexeme → Bool
@@ -37,14 +25,8 @@ parameter_of p = record { width = p.0; words = p.1.0; name = p.1.1 }
 unfoldable pub parameter : Reader Parameter
 parameter = made parameter_of (after (one type_of) (λ _. after (words_among parameter_words) (λ _. optional_name)))
 
-abbrev pub listed : Parameter × List Parameter → List Parameter
-listed p = p.0 ∷ p.1
-
-unfoldable pub further_parameters : Reader (List Parameter)
-further_parameters = many (is_mark 44) (λ _. skip (the_mark 44) parameter) same_state tt
-
 unfoldable pub parameters : Reader (List Parameter)
-parameters = choose is_any_word (made listed (after parameter (λ _. further_parameters))) (nothing [])
+parameters = comma_list is_any_word parameter
 
 -- what stands between parameters and body, where n parentheses are open
 abbrev pub with_lexeme : Lexeme → Result (List Lexeme × List Lexeme) ℕ → Result (List Lexeme × List Lexeme) ℕ
@@ -86,7 +68,7 @@ abbrev pub Body : Type 0
 Body = BasicBlock × List BasicBlock
 
 unfoldable pub body : Reader Body
-body = skip (the_mark 123) (ended (after (block_behind entry_label) (λ _. further_blocks)) (the_mark 125))
+body = skip (the_mark 123) (ended (after (block_with entry_label) (λ _. further_blocks)) (the_mark 125))
 
 abbrev pub sentence_of : Header × (List Lexeme × Body) → Sentence
 sentence_of p = record {

@@ -1,4 +1,5 @@
 pub mod Headers
+pub mod Items
 pub mod Productions
 pub mod Readers
 pub mod Resolving

@@ -1,5 +1,5 @@
 -- The productions as readers, in the order of the LLVM Language Reference.
-use Rattle.std.specs.Prelude.{ℕ, Bool, true, false, ◌==◌, ◌||◌, List, [], ◌∷◌, Option, Some, None, codes, bytes_eq}
+use Rattle.std.specs.Prelude.{ℕ, Bool, true, false, ◌==◌, ◌||◌, List, [], ◌∷◌, ◌++◌, map, Option, Some, None, codes, bytes_eq}
 use Rattle.vfa_ir.specs.declared.operations.Cast.{Cast}
 use Rattle.vfa_ir.specs.declared.operations.Pred.{Pred}
 use Rattle.vfa_ir.specs.declared.operations.Bin.{Bin}
@@ -10,20 +10,26 @@ use Rattle.vfa_ir.specs.declared.syntax.CallWords.{CallWords}
 use Rattle.vfa_ir.specs.declared.syntax.Literal.{Literal}
 use Rattle.vfa_ir.specs.declared.syntax.BasicBlock.{BasicBlock}
 use Rattle.vfa_ir.specs.declared.syntax.Incoming.{Incoming}
-use Rattle.vfa_ir.specs.declared.syntax.Line.{Line}
-use Rattle.vfa_ir.specs.declared.syntax.PhiPart.{PhiPart}
+use Rattle.vfa_ir.specs.declared.syntax.Argument.{Argument}
 use Rattle.vfa_ir.specs.declared.syntax.SwitchCase.{SwitchCase}
 use Rattle.vfa_ir.specs.declared.syntax.Terminator.{Terminator}
 use Rattle.vfa_read.specs.declared.forms.Form.{Form}
 use Rattle.vfa_read.specs.declared.forms.Ending.{Ending}
 use Rattle.vfa_read.specs.declared.intrinsics.Callee.{Callee}
+use Rattle.vfa_read.specs.declared.intrinsics.Intrinsic.{Intrinsic}
+use Rattle.vfa_read.specs.declared.intrinsics.VoidCallee.{VoidCallee}
+use Rattle.vfa_read.specs.declared.lines.BlockLines.{BlockLines}
+use Rattle.vfa_read.specs.declared.lines.Line.{Line}
+use Rattle.vfa_read.specs.declared.phis.PhiPart.{PhiPart}
 use Rattle.vfa_ir.specs.declared.syntax.Operation.{Operation}
-use Rattle.vfa_ir.specs.declared.syntax.Transfer.{Transfer}
+use Rattle.vfa_ir.specs.declared.syntax.TerminatorKind.{TerminatorKind}
 use Rattle.vfa_ir.specs.declared.syntax.Written.{Written}
 use Rattle.vfa_ir.specs.declared.syntax.Attachment.{Attachment}
 use Rattle.vfa_ir.specs.Lexemes.{Lexeme, mark, word, group, local, label, nameless_local, nameless_label}
+use Rattle.vfa_ir.specs.Words.{is_among, bin_word, bins, call_words, cast_word, casts, over_word, overs, parameter_words, pred_word, preds}
+use Rattle.vfa_read.specs.Items.{attachments_of, entries_of, lines_of}
 use Rattle.vfa_read.specs.Readers.{Reader, one, nothing, after, made, skip, ended, choose, many}
-use Rattle.vfa_read.specs.Tables.{the_mark, the_word, the_type, local_name, label_name, metadata_kind, metadata_node, type_of, value_of, word_in, preds, part_index, literal_of, group_digits, the_global, callee_in, callees, overs}
+use Rattle.vfa_read.specs.Tables.{the_mark, the_word, the_type, local_name, label_name, metadata_kind, metadata_node, type_of, value_of, word_among, keyword_in, part_index, literal_of, group_digits, callee_in, callee_after, void_after}
 
 abbrev pub is_mark : ℕ → Lexeme → Bool
 is_mark c (mark d) = d == c
@@ -46,6 +52,29 @@ same_state s _ = s
 unfoldable pub attachments : Reader (List Attachment)
 attachments = many (is_mark 44) (λ _. attachment) same_state tt
 
+-- words of a list
+abbrev pub is_word_among : List (List ℕ) → Lexeme → Bool
+is_word_among texts (word w) = is_among w texts
+is_word_among texts _ = false
+
+unfoldable pub words_among : List (List ℕ) → Reader (List (List ℕ))
+words_among texts = many (is_word_among texts) (λ _. one (word_among texts)) same_state tt
+
+-- any word
+abbrev pub is_any_word : Lexeme → Bool
+is_any_word (word _) = true
+is_any_word _ = false
+
+-- items with commas between, where any begin
+abbrev pub listed : {A : Type 0} → A × List A → List A
+listed p = p.0 ∷ p.1
+
+abbrev pub after_commas : {A : Type 0} → Reader A → Reader (List A)
+after_commas item = many (is_mark 44) (λ _. skip (the_mark 44) item) same_state tt
+
+abbrev pub comma_list : {A : Type 0} → (Lexeme → Bool) → Reader A → Reader (List A)
+comma_list starts item = choose starts (made listed (after item (λ _. after_commas item))) (nothing [])
+
 -- `label %name`
 unfoldable pub target : Reader (List ℕ)
 target = skip (the_word (codes "label")) (one local_name)
@@ -57,12 +86,37 @@ operands width = after (one (value_of width)) (λ _. skip (the_mark 44) (one (va
 abbrev pub typed_operands : ℕ → Reader (Written × Written)
 typed_operands width = after (one (value_of width)) (λ _. skip (the_mark 44) (skip (the_type width) (one (value_of width))))
 
--- "icmp Instruction", behind its word, and so on below
-abbrev pub compare_of : Pred × (ℕ × (Written × Written)) → Operation
-compare_of p = Operation.Compare p.0 p.1.0 p.1.1.0 p.1.1.1
+abbrev pub is_word : List ℕ → Lexeme → Bool
+is_word text (word w) = bytes_eq w text
+is_word text _ = false
+
+-- flags in any order, each at most once
+abbrev pub optional_word : List ℕ → Reader (List (List ℕ))
+optional_word text = choose (is_word text) (made (λ _. text ∷ []) (one (the_word text))) (nothing [])
+
+abbrev pub is_wrap_flag : Lexeme → Bool
+is_wrap_flag (word w) = bytes_eq w (codes "nuw") || bytes_eq w (codes "nsw")
+is_wrap_flag _ = false
+
+abbrev pub flag_list : List ℕ → Unit {0} × List (List ℕ) → List (List ℕ)
+flag_list first p = first ∷ p.1
+
+abbrev pub flag_then : List ℕ → List ℕ → Reader (List (List ℕ))
+flag_then first second = made (flag_list first) (after (one (the_word first)) (λ _. optional_word second))
+
+abbrev pub wrap_flags : Reader (List (List ℕ))
+wrap_flags = choose is_wrap_flag
+    (choose (is_word (codes "nuw")) (flag_then (codes "nuw") (codes "nsw")) (flag_then (codes "nsw") (codes "nuw"))) (nothing [])
+
+-- "icmp Instruction", after its word, and so on below
+abbrev pub same_sign : Reader Bool
+same_sign = choose (is_word (codes "samesign")) (made (λ _. true) (one (the_word (codes "samesign")))) (nothing false)
+
+abbrev pub compare_of : Bool × (Pred × (ℕ × (Written × Written))) → Operation
+compare_of p = Operation.Compare p.0 p.1.0 p.1.1.0 p.1.1.1.0 p.1.1.1.1
 
 unfoldable pub compare : Reader Operation
-compare = made compare_of (after (one (word_in preds)) (λ _. after (one type_of) operands))
+compare = made compare_of (after same_sign (λ _. after (one (keyword_in pred_word preds)) (λ _. after (one type_of) operands)))
 
 -- "select Instruction"
 abbrev pub select_of : Written × (ℕ × (Written × Written)) → Operation
@@ -72,11 +126,19 @@ unfoldable pub select : Reader Operation
 select = made select_of (skip (the_type 1) (after (one (value_of 1)) (λ _. skip (the_mark 44) (after (one type_of) typed_operands))))
 
 -- "Conversion Operations"
-abbrev pub convert_of : Cast → ℕ × (Written × ℕ) → Operation
-convert_of cast p = Operation.Convert cast p.0 p.1.0 p.1.1
+abbrev pub cast_flags : Cast → Reader (List (List ℕ))
+cast_flags Cast.Zext = optional_word (codes "nneg")
+cast_flags Cast.Sext = nothing []
+cast_flags Cast.Trunc = wrap_flags
+
+abbrev pub convert_of : Cast → List (List ℕ) × (ℕ × (Written × ℕ)) → Operation
+convert_of cast p = Operation.Convert cast p.0 p.1.0 p.1.1.0 p.1.1.1
+
+unfoldable pub converted : Reader (ℕ × (Written × ℕ))
+converted = after (one type_of) (λ width. after (one (value_of width)) (λ _. skip (the_word (codes "to")) (one type_of)))
 
 unfoldable pub convert : Cast → Reader Operation
-convert cast = made (convert_of cast) (after (one type_of) (λ width. after (one (value_of width)) (λ _. skip (the_word (codes "to")) (one type_of))))
+convert cast = made (convert_of cast) (after (cast_flags cast) (λ _. converted))
 
 -- "freeze Instruction"
 abbrev pub freeze_of : ℕ × Written → Operation
@@ -97,24 +159,20 @@ unfoldable pub extract : Reader Operation
 extract = made extract_of (after pair_type (λ _. after (one local_name) (λ _. skip (the_mark 44) (one part_index))))
 
 -- "ret Instruction", "br Instruction", "unreachable Instruction"
-abbrev pub return_of : ℕ × Written → Transfer
-return_of p = Transfer.Return p.0 p.1
+abbrev pub return_of : ℕ × Written → TerminatorKind
+return_of p = TerminatorKind.Return p.0 p.1
 
-unfoldable pub returned : Reader Transfer
+unfoldable pub returned : Reader TerminatorKind
 returned = made return_of (after (one type_of) (λ width. one (value_of width)))
 
-abbrev pub condition_of : Written × (List ℕ × List ℕ) → Transfer
-condition_of p = Transfer.Condition p.0 p.1.0 p.1.1
+abbrev pub condition_of : Written × (List ℕ × List ℕ) → TerminatorKind
+condition_of p = TerminatorKind.Condition p.0 p.1.0 p.1.1
 
-unfoldable pub condition : Reader Transfer
+unfoldable pub condition : Reader TerminatorKind
 condition = made condition_of (skip (the_type 1) (after (one (value_of 1)) (λ _. skip (the_mark 44) (after target (λ _. skip (the_mark 44) target)))))
 
-abbrev pub is_word : List ℕ → Lexeme → Bool
-is_word text (word w) = bytes_eq w text
-is_word text _ = false
-
-unfoldable pub branch : Reader Transfer
-branch = choose (is_word (codes "label")) (made Transfer.Always target) condition
+unfoldable pub branch : Reader TerminatorKind
+branch = choose (is_word (codes "label")) (made TerminatorKind.Always target) condition
 
 -- `( T V , T V )`
 abbrev pub arguments : ℕ → Reader (Written × Written)
@@ -137,7 +195,7 @@ is_group _ = false
 unfoldable pub groups : Reader (List (List ℕ))
 groups = many is_group (λ _. one group_digits) same_state tt
 
--- "call Instruction", behind `call`
+-- "call Instruction", after `call`
 abbrev pub words_of : Option (List ℕ) → List (List ℕ) → CallWords
 words_of marker digits = record { marker = marker; groups = digits }
 
@@ -153,51 +211,70 @@ one_of marker width fun p = Operation.One (words_of marker p.1) fun width p.0.0 
 unfoldable pub one_call : Option (List ℕ) → ℕ → Fun1 → Reader Operation
 one_call marker width fun = made (one_of marker width fun) (after (argument width fun) (λ _. groups))
 
-abbrev pub callee_call : Option (List ℕ) → ℕ → Callee → Reader Operation
-callee_call marker width (Callee.Two fun) = two_call marker width fun
-callee_call marker width (Callee.One fun) = one_call marker width fun
+-- a call of a function that is no intrinsic, after its name
+abbrev pub argument_of : ℕ × (List (List ℕ) × Written) → Argument
+argument_of p = record { width = p.0; words = p.1.0; value = p.1.1 }
 
-abbrev pub last_of : ℕ × (Callee × Operation) → Operation
-last_of p = p.1.1
+unfoldable pub call_argument : Reader Argument
+call_argument = made argument_of (after (one type_of) (λ width. after (words_among parameter_words) (λ _. one (value_of width))))
+
+unfoldable pub call_arguments : Reader (List Argument)
+call_arguments = skip (the_mark 40) (ended (comma_list is_any_word call_argument) (the_mark 41))
+
+abbrev pub other_of : Option (List ℕ) → List (List ℕ) → Option ℕ → List ℕ → List Argument × List (List ℕ) → Operation
+other_of marker words width name p = Operation.Call (words_of marker p.1) words width name p.0
+
+unfoldable pub other_call : Option (List ℕ) → List (List ℕ) → Option ℕ → List ℕ → Reader Operation
+other_call marker words width name = made (other_of marker words width name) (after call_arguments (λ _. groups))
+
+-- a call with a result
+abbrev pub callee_call : Option (List ℕ) → List (List ℕ) → ℕ → Callee → Reader Operation
+callee_call marker words width (Callee.Known (Intrinsic.Two fun)) = two_call marker width fun
+callee_call marker words width (Callee.Known (Intrinsic.One fun)) = one_call marker width fun
+callee_call marker words width (Callee.Other name) = other_call marker words (Some width) name
+
+abbrev pub named_of : ℕ × (Callee × Operation) → Operation
+named_of p = p.1.1
+
+abbrev pub named_call : Option (List ℕ) → List (List ℕ) → Reader Operation
+named_call marker words = made named_of (after (one type_of) (λ width. after (one (callee_after words width)) (callee_call marker words width)))
+
+abbrev pub last_of : List (List ℕ) × Operation → Operation
+last_of p = p.1
 
 unfoldable pub plain_call : Option (List ℕ) → Reader Operation
-plain_call marker = made last_of (after (one type_of) (λ width. after (one (callee_in callees width)) (callee_call marker width)))
+plain_call marker = made last_of (after (words_among call_words) (named_call marker))
 
 abbrev pub over_of : Option (List ℕ) → ℕ × (Over × ((Written × Written) × List (List ℕ))) → Operation
 over_of marker p = Operation.Over (words_of marker p.1.1.1) p.1.0 p.0 p.1.1.0.0 p.1.1.0.1
 
 unfoldable pub over_call : Option (List ℕ) → Reader Operation
-over_call marker = made (over_of marker) (after pair_type (λ width. after (one (callee_in overs width)) (λ _. after (arguments width) (λ _. groups))))
+over_call marker = made (over_of marker) (after pair_type (λ width. after (one (callee_in over_word overs width)) (λ _. after (arguments width) (λ _. groups))))
 
 unfoldable pub call : Option (List ℕ) → Reader Operation
 call marker = choose (is_mark 123) (over_call marker) (plain_call marker)
 
--- a call of `llvm.assume`, behind `call`
+-- a call without a result: of `llvm.assume`, or of a function that is no intrinsic
 abbrev pub assume_of : Option (List ℕ) → Written × List (List ℕ) → Operation
 assume_of marker p = Operation.Assume (words_of marker p.1) p.0
 
-unfoldable pub assume : Option (List ℕ) → Reader Operation
-assume marker = made (assume_of marker) (skip (the_word (codes "void")) (skip (the_global (codes "llvm.assume"))
-    (after (skip (the_mark 40) (skip (the_type 1) (ended (one (value_of 1)) (the_mark 41)))) (λ _. groups))))
+unfoldable pub assume_call : Option (List ℕ) → Reader Operation
+assume_call marker = made (assume_of marker) (after (skip (the_mark 40) (skip (the_type 1) (ended (one (value_of 1)) (the_mark 41)))) (λ _. groups))
 
--- "Binary Operations": the flags in any order, each at most once
-abbrev pub optional_word : List ℕ → Reader (List (List ℕ))
-optional_word text = choose (is_word text) (made (λ _. text ∷ []) (one (the_word text))) (nothing [])
+abbrev pub void_callee_call : Option (List ℕ) → List (List ℕ) → VoidCallee → Reader Operation
+void_callee_call marker words VoidCallee.Assume = assume_call marker
+void_callee_call marker words (VoidCallee.Other name) = other_call marker words None name
 
-abbrev pub is_wrap_flag : Lexeme → Bool
-is_wrap_flag (word w) = bytes_eq w (codes "nuw") || bytes_eq w (codes "nsw")
-is_wrap_flag _ = false
+abbrev pub void_of : List (List ℕ) × (VoidCallee × Operation) → Operation
+void_of p = p.1.1
 
-abbrev pub flag_list : List ℕ → Unit {0} × List (List ℕ) → List (List ℕ)
-flag_list first p = first ∷ p.1
+abbrev pub void_named : Option (List ℕ) → List (List ℕ) → Reader (VoidCallee × Operation)
+void_named marker words = skip (the_word (codes "void")) (after (one (void_after words)) (void_callee_call marker words))
 
-abbrev pub flag_then : List ℕ → List ℕ → Reader (List (List ℕ))
-flag_then first second = made (flag_list first) (after (one (the_word first)) (λ _. optional_word second))
+unfoldable pub void_call : Option (List ℕ) → Reader Operation
+void_call marker = made void_of (after (words_among call_words) (void_named marker))
 
-abbrev pub wrap_flags : Reader (List (List ℕ))
-wrap_flags = choose is_wrap_flag
-    (choose (is_word (codes "nuw")) (flag_then (codes "nuw") (codes "nsw")) (flag_then (codes "nsw") (codes "nuw"))) (nothing [])
-
+-- "Binary Operations"
 abbrev pub flags : Bin → Reader (List (List ℕ))
 flags Bin.Add = wrap_flags
 flags Bin.Sub = wrap_flags
@@ -207,6 +284,7 @@ flags Bin.Udiv = optional_word (codes "exact")
 flags Bin.Sdiv = optional_word (codes "exact")
 flags Bin.Lshr = optional_word (codes "exact")
 flags Bin.Ashr = optional_word (codes "exact")
+flags Bin.Or = optional_word (codes "disjoint")
 flags _ = nothing []
 
 abbrev pub binary_of : Bin → List (List ℕ) × (ℕ × (Written × Written)) → Operation
@@ -222,38 +300,33 @@ case_of p = record { number = p.0; block = p.1 }
 unfoldable pub switch_case : ℕ → Reader SwitchCase
 switch_case width = made case_of (skip (the_type width) (after (one (literal_of width)) (λ _. skip (the_mark 44) target)))
 
-abbrev pub is_any_word : Lexeme → Bool
-is_any_word (word _) = true
-is_any_word _ = false
-
 unfoldable pub switch_cases : ℕ → Reader (List SwitchCase)
 switch_cases width = many is_any_word (λ _. switch_case width) same_state tt
 
-abbrev pub switch_of : ℕ × (Written × (List ℕ × List SwitchCase)) → Transfer
-switch_of p = Transfer.Switch p.0 p.1.0 p.1.1.0 p.1.1.1
+abbrev pub switch_of : ℕ × (Written × (List ℕ × List SwitchCase)) → TerminatorKind
+switch_of p = TerminatorKind.Switch p.0 p.1.0 p.1.1.0 p.1.1.1
 
-unfoldable pub switch : Reader Transfer
+unfoldable pub switch : Reader TerminatorKind
 switch = made switch_of (after (one type_of) (λ width. after (one (value_of width)) (λ _. skip (the_mark 44) (after target (λ _.
     skip (the_mark 91) (ended (switch_cases width) (the_mark 93)))))))
 
 -- the word that an operation begins with
-abbrev pub forms : List (List ℕ × Form)
-forms = (codes "add", Form.Binary Bin.Add)
-    ∷ (codes "sub", Form.Binary Bin.Sub)
-    ∷ (codes "mul", Form.Binary Bin.Mul)
-    ∷ (codes "shl", Form.Binary Bin.Shl)
-    ∷ (codes "udiv", Form.Binary Bin.Udiv)
-    ∷ (codes "sdiv", Form.Binary Bin.Sdiv)
-    ∷ (codes "lshr", Form.Binary Bin.Lshr)
-    ∷ (codes "ashr", Form.Binary Bin.Ashr)
-    ∷ (codes "urem", Form.Binary Bin.Urem)
-    ∷ (codes "srem", Form.Binary Bin.Srem)
-    ∷ (codes "and", Form.Binary Bin.And)
-    ∷ (codes "or", Form.Binary Bin.Or)
-    ∷ (codes "xor", Form.Binary Bin.Xor)
-    ∷ (codes "icmp", Form.Compare) ∷ (codes "select", Form.Select) ∷ (codes "zext", Form.Convert Cast.Zext) ∷ (codes "sext", Form.Convert Cast.Sext)
-    ∷ (codes "trunc", Form.Convert Cast.Trunc) ∷ (codes "freeze", Form.Freeze) ∷ (codes "extractvalue", Form.Extract)
-    ∷ (codes "call", Form.Call) ∷ (codes "tail", Form.Tail) ∷ (codes "notail", Form.Notail) ∷ []
+abbrev pub form_word : Form → List ℕ
+form_word (Form.Binary bin) = bin_word bin
+form_word Form.Compare = codes "icmp"
+form_word Form.Select = codes "select"
+form_word (Form.Convert cast) = cast_word cast
+form_word Form.Freeze = codes "freeze"
+form_word Form.Extract = codes "extractvalue"
+form_word Form.Call = codes "call"
+form_word Form.Tail = codes "tail"
+form_word Form.Notail = codes "notail"
+
+abbrev pub other_forms : List Form
+other_forms = Form.Compare ∷ Form.Select ∷ Form.Freeze ∷ Form.Extract ∷ Form.Call ∷ Form.Tail ∷ Form.Notail ∷ []
+
+abbrev pub forms : List Form
+forms = map Form.Binary bins ++ (map Form.Convert casts ++ other_forms)
 
 abbrev pub marked_call : List ℕ → Reader Operation
 marked_call marker = skip (the_word (codes "call")) (call (Some marker))
@@ -274,29 +347,35 @@ abbrev pub formed : Form × Operation → Operation
 formed p = p.1
 
 unfoldable pub operation : Reader Operation
-operation = made formed (after (one (word_in forms)) form_rest)
+operation = made formed (after (one (keyword_in form_word forms)) form_rest)
 
 -- the word that a terminator begins with
-abbrev pub endings : List (List ℕ × Ending)
-endings = (codes "ret", Ending.Return) ∷ (codes "br", Ending.Branch) ∷ (codes "switch", Ending.Switch) ∷ (codes "unreachable", Ending.Unreachable) ∷ []
+abbrev pub ending_word : Ending → List ℕ
+ending_word Ending.Return = codes "ret"
+ending_word Ending.Branch = codes "br"
+ending_word Ending.Switch = codes "switch"
+ending_word Ending.Unreachable = codes "unreachable"
 
-abbrev pub ending_rest : Ending → Reader Transfer
+abbrev pub endings : List Ending
+endings = Ending.Return ∷ Ending.Branch ∷ Ending.Switch ∷ Ending.Unreachable ∷ []
+
+abbrev pub ending_rest : Ending → Reader TerminatorKind
 ending_rest Ending.Return = returned
 ending_rest Ending.Branch = branch
 ending_rest Ending.Switch = switch
-ending_rest Ending.Unreachable = nothing Transfer.Unreachable
+ending_rest Ending.Unreachable = nothing TerminatorKind.Unreachable
 
-abbrev pub ended_by : Ending × Transfer → Transfer
+abbrev pub ended_by : Ending × TerminatorKind → TerminatorKind
 ended_by p = p.1
 
-unfoldable pub transfer : Reader Transfer
-transfer = made ended_by (after (one (word_in endings)) ending_rest)
+unfoldable pub terminator_kind : Reader TerminatorKind
+terminator_kind = made ended_by (after (one (keyword_in ending_word endings)) ending_rest)
 
-abbrev pub terminator_of : Transfer × List Attachment → Terminator
-terminator_of p = record { transfer = p.0; attached = p.1 }
+abbrev pub terminator_of : TerminatorKind × List Attachment → Terminator
+terminator_of p = record { kind = p.0; attached = p.1 }
 
 unfoldable pub terminator : Reader Terminator
-terminator = made terminator_of (after transfer (λ _. attachments))
+terminator = made terminator_of (after terminator_kind (λ _. attachments))
 
 -- "phi Instruction"
 abbrev pub incoming_of : Written × List ℕ → Incoming
@@ -320,7 +399,7 @@ unfoldable pub phi_parts : ℕ → Bool → Reader (List PhiPart)
 phi_parts width operands = many (is_mark 44) (phi_part width) still_operands operands
 
 abbrev pub phi_of : List ℕ → ℕ × (Incoming × List PhiPart) → Line
-phi_of result p = Line.Phi (record { result = result; width = p.0; first = p.1.0; parts = p.1.1 })
+phi_of result p = Line.Phi (record { result = result; width = p.0; entries = p.1.0 ∷ entries_of p.1.1; attached = attachments_of p.1.1 })
 
 unfoldable pub phi_rest : List ℕ → Reader Line
 phi_rest result = made (phi_of result) (after (one type_of) (λ width. after (incoming width) (λ _. phi_parts width true)))
@@ -348,11 +427,11 @@ marker_word = choose (is_word (codes "tail")) (made (λ _. codes "tail") (one (t
 unfoldable pub call_marker : Reader (Option (List ℕ))
 call_marker = choose (is_word (codes "call")) (made (λ _. None) (one (the_word (codes "call")))) (made Some (ended marker_word (the_word (codes "call"))))
 
-abbrev pub assumed_of : Option (List ℕ) × (Operation × List Attachment) → Line
-assumed_of p = plain_of None p.1
+abbrev pub void_line_of : Option (List ℕ) × (Operation × List Attachment) → Line
+void_line_of p = plain_of None p.1
 
-unfoldable pub assume_line : Reader Line
-assume_line = made assumed_of (after call_marker (λ marker. after (assume marker) (λ _. attachments)))
+unfoldable pub void_line : Reader Line
+void_line = made void_line_of (after call_marker (λ marker. after (void_call marker) (λ _. attachments)))
 
 abbrev pub is_call_word : List ℕ → Bool
 is_call_word w = bytes_eq w (codes "call") || bytes_eq w (codes "tail") || bytes_eq w (codes "notail")
@@ -362,7 +441,7 @@ starts_call (word w) = is_call_word w
 starts_call _ = false
 
 unfoldable pub line : Bool → Reader Line
-line phis = choose starts_call assume_line (defined_line phis)
+line phis = choose starts_call void_line (defined_line phis)
 
 abbrev pub starts_line : Lexeme → Bool
 starts_line (local _) = true
@@ -377,17 +456,26 @@ still_phis phis (Line.Plain _) = false
 unfoldable pub lines : Bool → Reader (List Line)
 lines phis = many starts_line line still_phis phis
 
+unfoldable pub block_lines : Reader BlockLines
+block_lines = made lines_of (lines true)
+
 -- a block
 abbrev pub starts_label : Lexeme → Bool
 starts_label (label _) = true
 starts_label nameless_label = true
 starts_label _ = false
 
-abbrev pub block_of : Option (List ℕ) × (List Line × Terminator) → BasicBlock
-block_of p = record { label = p.0; lines = p.1.0; terminator = p.1.1 }
+abbrev pub block_of : Option (List ℕ) × (BlockLines × Terminator) → BasicBlock
+block_of p = record { label = p.0; phis = p.1.0.phis; instructions = p.1.0.instructions; terminator = p.1.1 }
 
-unfoldable pub block_behind : Reader (Option (List ℕ)) → Reader BasicBlock
-block_behind label_reader = made block_of (after label_reader (λ _. after (lines true) (λ _. terminator)))
+abbrev pub block_labelled : Option (List ℕ) → BlockLines × Terminator → BasicBlock
+block_labelled name p = block_of (name, p)
+
+abbrev pub block_rest : Reader (BlockLines × Terminator)
+block_rest = after block_lines (λ _. terminator)
+
+unfoldable pub block_with : Reader (Option (List ℕ)) → Reader BasicBlock
+block_with label_reader = made block_of (after label_reader (λ _. block_rest))
 
 abbrev pub written_label : Reader (Option (List ℕ))
 written_label = made Some (one label_name)
@@ -396,4 +484,4 @@ abbrev pub entry_label : Reader (Option (List ℕ))
 entry_label = choose starts_label written_label (nothing None)
 
 unfoldable pub further_blocks : Reader (List BasicBlock)
-further_blocks = many starts_label (λ _. block_behind written_label) same_state tt
+further_blocks = many starts_label (λ _. block_with written_label) same_state tt

@@ -2,16 +2,15 @@
 use Rattle.std.specs.Prelude.{◌≡◌, ℕ, List, [], ◌∷◌, ◌++◌, Option, Some, None, Result, Ok, Err, map, flat_map, unwrap_or, decimal}
 use Rattle.vfa_ir.specs.declared.syntax.BasicBlock.{BasicBlock}
 use Rattle.vfa_ir.specs.declared.syntax.Incoming.{Incoming}
-use Rattle.vfa_ir.specs.declared.syntax.Line.{Line}
 use Rattle.vfa_ir.specs.declared.syntax.Parameter.{Parameter}
-use Rattle.vfa_ir.specs.declared.syntax.PhiPart.{PhiPart}
+use Rattle.vfa_ir.specs.declared.syntax.Operation.{Operation}
+use Rattle.vfa_ir.specs.declared.functions.CallOp.{CallOp}
 use Rattle.vfa_ir.specs.declared.operations.BlockId.{BlockId}
 use Rattle.vfa_ir.specs.declared.operations.Operand.{Operand}
 use Rattle.vfa_ir.specs.declared.reasons.Outside.{Outside}
 use Rattle.vfa_ir.specs.DefinedNames.{first_repeated, block_results, Use, first_unknown, value_uses}
 use Rattle.vfa_ir.specs.DefinedNames.Use.{of_block}
-use Rattle.vfa_ir.specs.Grammar.{FitsAttachment, FitsInstruction, FitsPhi, FitsValue}
-use Rattle.vfa_ir.specs.Resolution.{Scope, block_id, operand_of}
+use Rattle.vfa_ir.specs.Resolution.{Scope, block_id, call_of, operand_of}
 use Rattle.vfa_ir.specs.Sentence.{Sentence}
 
 -- the tree of these parameters and blocks, with nothing else
@@ -37,7 +36,7 @@ no_names = record { all = []; values = []; blocks = [] }
 abbrev pub one_block : List ℕ → Names
 one_block name = record { all = name ∷ []; values = []; blocks = name ∷ [] }
 
--- these and behind them those
+-- these and after them those
 abbrev pub joined : Names → Names → Names
 joined these those = record { all = these.all ++ those.all; values = these.values ++ those.values; blocks = these.blocks ++ those.blocks }
 
@@ -96,11 +95,6 @@ entry_uses i = value_uses i.value ++ (of_block i.block ∷ [])
 abbrev pub entry_of : Scope → ℕ → Incoming → Operand × BlockId
 entry_of scope width i = (operand_of scope width i.value, block_id scope i.block)
 
--- what the grammar asks of a part of a phi, and of a line, wherever they stand
-abbrev pub FitsPart : ℕ → PhiPart → Type 0
-FitsPart width (PhiPart.Entry i) = FitsValue width i.value
-FitsPart width (PhiPart.Attached a) = FitsAttachment a
-
-abbrev pub FitsLine : Line → Type 0
-FitsLine (Line.Phi p) = FitsPhi p
-FitsLine (Line.Plain i) = FitsInstruction i
+-- the call of an operation, where it is one
+abbrev pub operation_calls : Scope → Operation → List CallOp
+operation_calls scope op = elim (call_of scope op) [ None ↦ [] | Some call ↦ call ∷ [] ]

@@ -1,5 +1,5 @@
 -- What the reader sees of a text.
-use Rattle.std.specs.Prelude.{List}
+use Rattle.std.specs.Prelude.{ℕ, List, map}
 use Rattle.vfa_ir.specs.Lexemes.{Lexeme, local, global, label, nameless_local, nameless_global, nameless_label, metadata, group, number, word, string, mark, other}
 use Rattle.vfa_ir.specs.TokenLexemes.{lexemes, named, written_name}
 use Rattle.vfa_read.specs.declared.source.Seen.{Seen}
@@ -19,3 +19,7 @@ seen_lexeme Seen.Other = other
 
 abbrev pub all_of : Source → List Lexeme
 all_of s = lexemes s.bytes.now s.tokens.now
+
+-- the line of each token
+abbrev pub line_numbers : Source → List ℕ
+line_numbers s = map (λ t. t.line) s.tokens.now

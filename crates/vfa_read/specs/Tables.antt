@@ -1,15 +1,13 @@
 -- The lexemes that stand for something alone, and what they stand for.
-use Rattle.std.specs.Prelude.{ℕ, ◌-◌, ◌^◌, Bool, true, false, not, ◌&&◌, ◌==◌, nat_lt, nat_le, if◌then◌else◌, List, [], ◌∷◌, Option, Some, None, option_map, codes, bytes_eq}
+use Rattle.std.specs.Prelude.{ℕ, ◌-◌, ◌^◌, Bool, true, false, not, ◌&&◌, ◌==◌, nat_lt, nat_le, if◌then◌else◌, List, [], ◌∷◌, ◌++◌, map, find, Option, Some, None, option_map, codes, bytes_eq}
 use Rattle.std.specs.Str.Parse.{digits_value}
 use Rattle.vfa_ir.specs.declared.syntax.Literal.{Literal}
 use Rattle.vfa_ir.specs.declared.syntax.Written.{Written}
-use Rattle.vfa_ir.specs.declared.operations.Pred.{Pred}
-use Rattle.vfa_ir.specs.declared.operations.Fun1.{Fun1}
-use Rattle.vfa_ir.specs.declared.operations.Fun2.{Fun2}
-use Rattle.vfa_ir.specs.declared.operations.Over.{Over}
 use Rattle.vfa_read.specs.declared.intrinsics.Callee.{Callee}
+use Rattle.vfa_read.specs.declared.intrinsics.Intrinsic.{Intrinsic}
+use Rattle.vfa_read.specs.declared.intrinsics.VoidCallee.{VoidCallee}
 use Rattle.vfa_ir.specs.Lexemes.{Lexeme, local, global, label, metadata, group, number, word, mark}
-use Rattle.vfa_ir.specs.Words.{is_among, is_digits, is_number, callee}
+use Rattle.vfa_ir.specs.Words.{is_among, is_digits, is_number, is_intrinsic, keyword, callee, fun1_word, fun1s, fun2_word, fun2s}
 
 abbrev pub the_mark : ℕ → Lexeme → Option (Unit {0})
 the_mark c (mark d) = if d == c then Some tt else None
@@ -47,18 +45,10 @@ abbrev pub word_among : List (List ℕ) → Lexeme → Option (List ℕ)
 word_among texts (word w) = if is_among w texts then Some w else None
 word_among texts _ = None
 
--- a table of words
-abbrev pub lookup : {A : Type 0} → List (List ℕ × A) → List ℕ → Option A
-lookup [] text = None
-lookup (entry ∷ rest) text = if bytes_eq text entry.0 then Some entry.1 else lookup rest text
-
-abbrev pub word_in : {A : Type 0} → List (List ℕ × A) → Lexeme → Option A
-word_in table (word w) = lookup table w
-word_in table _ = None
-
-abbrev pub preds : List (List ℕ × Pred)
-preds = (codes "eq", Pred.Eq) ∷ (codes "ne", Pred.Ne) ∷ (codes "ugt", Pred.Ugt) ∷ (codes "uge", Pred.Uge) ∷ (codes "ult", Pred.Ult)
-    ∷ (codes "ule", Pred.Ule) ∷ (codes "sgt", Pred.Sgt) ∷ (codes "sge", Pred.Sge) ∷ (codes "slt", Pred.Slt) ∷ (codes "sle", Pred.Sle) ∷ []
+-- the value that a word stands for
+abbrev pub keyword_in : {K : Type 0} → (K → List ℕ) → List K → Lexeme → Option K
+keyword_in spelled all (word w) = keyword spelled all w
+keyword_in spelled all _ = None
 
 -- whether digits, perhaps behind a `-`, are a number of the range of a width
 abbrev pub fits_number : ℕ → List ℕ → Bool
@@ -108,26 +98,36 @@ value_of width (word w) = if bytes_eq w (codes "poison") then Some Written.Poiso
 value_of width (number text) = option_map Written.Literal (literal_of width (number text))
 value_of width _ = None
 
--- a global of a known name
-abbrev pub the_global : List ℕ → Lexeme → Option (Unit {0})
-the_global text (global name) = if bytes_eq name text then Some tt else None
-the_global text _ = None
+-- the intrinsic of a name at a width
+abbrev pub intrinsic_in : {K : Type 0} → (K → List ℕ) → List K → ℕ → List ℕ → Option K
+intrinsic_in spelled all width name = find (λ k. bytes_eq name (callee (spelled k) width)) all
 
--- the intrinsics at a width, by their names
-abbrev pub intrinsic_in : {A : Type 0} → List (List ℕ × A) → ℕ → List ℕ → Option A
-intrinsic_in [] width name = None
-intrinsic_in (entry ∷ rest) width name = if bytes_eq name (callee entry.0 width) then Some entry.1 else intrinsic_in rest width name
+abbrev pub callee_in : {K : Type 0} → (K → List ℕ) → List K → ℕ → Lexeme → Option K
+callee_in spelled all width (global name) = intrinsic_in spelled all width name
+callee_in spelled all width _ = None
 
-abbrev pub callee_in : {A : Type 0} → List (List ℕ × A) → ℕ → Lexeme → Option A
-callee_in table width (global name) = intrinsic_in table width name
-callee_in table width _ = None
+-- the intrinsics whose result is of the type of their arguments
+abbrev pub intrinsic_word : Intrinsic → List ℕ
+intrinsic_word (Intrinsic.Two fun) = fun2_word fun
+intrinsic_word (Intrinsic.One fun) = fun1_word fun
 
-abbrev pub overs : List (List ℕ × Over)
-overs = (codes "uadd.with.overflow", Over.Uadd) ∷ (codes "sadd.with.overflow", Over.Sadd) ∷ (codes "usub.with.overflow", Over.Usub)
-    ∷ (codes "ssub.with.overflow", Over.Ssub) ∷ (codes "umul.with.overflow", Over.Umul) ∷ (codes "smul.with.overflow", Over.Smul) ∷ []
+abbrev pub intrinsics : List Intrinsic
+intrinsics = map Intrinsic.Two fun2s ++ map Intrinsic.One fun1s
 
-abbrev pub callees : List (List ℕ × Callee)
-callees = (codes "umin", Callee.Two Fun2.Umin) ∷ (codes "umax", Callee.Two Fun2.Umax) ∷ (codes "smin", Callee.Two Fun2.Smin)
-    ∷ (codes "smax", Callee.Two Fun2.Smax) ∷ (codes "uadd.sat", Callee.Two Fun2.UaddSat) ∷ (codes "usub.sat", Callee.Two Fun2.UsubSat)
-    ∷ (codes "sadd.sat", Callee.Two Fun2.SaddSat) ∷ (codes "ssub.sat", Callee.Two Fun2.SsubSat) ∷ (codes "abs", Callee.One Fun1.Abs)
-    ∷ (codes "ctlz", Callee.One Fun1.Ctlz) ∷ (codes "cttz", Callee.One Fun1.Cttz) ∷ (codes "ctpop", Callee.One Fun1.Ctpop) ∷ []
+-- The callee of a call with a result, after these words: an intrinsic has none, and any other name is that of a function.
+abbrev pub known_callee : List (List ℕ) → ℕ → List ℕ → Option Callee
+known_callee [] width name = option_map Callee.Known (intrinsic_in intrinsic_word intrinsics width name)
+known_callee (_ ∷ _) width name = None
+
+abbrev pub callee_after : List (List ℕ) → ℕ → Lexeme → Option Callee
+callee_after words width (global name) = if is_intrinsic name then known_callee words width name else Some (Callee.Other name)
+callee_after words width _ = None
+
+-- The same of a call without a result.
+abbrev pub known_void : List (List ℕ) → List ℕ → Option VoidCallee
+known_void [] name = if bytes_eq name (codes "llvm.assume") then Some VoidCallee.Assume else None
+known_void (_ ∷ _) name = None
+
+abbrev pub void_after : List (List ℕ) → Lexeme → Option VoidCallee
+void_after words (global name) = if is_intrinsic name then known_void words name else Some (VoidCallee.Other name)
+void_after words _ = None

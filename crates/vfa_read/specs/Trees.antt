@@ -1,10 +1,11 @@
 -- The tree of a function as the code keeps it: its tail is given by places.
-use Rattle.std.specs.Prelude.{◌≡◌, ◌⊎◌, ◌≤◌, ◌+◌, ◌-◌, ◌==◌, ℕ, if◌then◌else◌, List, ◌∷◌, length, take, drop, Option, Some, None, Result, Ok, Err}
+use Rattle.std.specs.Prelude.{◌≡◌, ◌⊎◌, ◌≤◌, ◌+◌, ◌-◌, ◌==◌, ℕ, suc, if◌then◌else◌, List, ◌∷◌, length, take, drop, Option, Some, None, Result, Ok, Err}
 use Rattle.vfa_ir.specs.declared.syntax.BasicBlock.{BasicBlock}
 use Rattle.vfa_ir.specs.Lexemes.{Lexeme, mark}
 use Rattle.vfa_ir.specs.Reads.{IsSentence, StopsAt, IsUnfinished}
 use Rattle.vfa_ir.specs.Sentence.{Sentence}
 use Rattle.vfa_ir.specs.Spelling as spell
+use Rattle.vfa_ir.specs.TextLines.{block_lines}
 use Rattle.vfa_read.specs.declared.headers.FunctionHeader.{FunctionHeader}
 use Rattle.vfa_read.specs.declared.sentences.FunctionTree.{FunctionTree}
 use Rattle.vfa_read.specs.declared.stops.Stop.{Stop}
@@ -16,16 +17,16 @@ header_of p = record { lead = p.0; width = p.1.0; name = p.1.1.0; parameters = p
 abbrev pub blocks_of : read.Body → List BasicBlock
 blocks_of p = p.0 ∷ p.1
 
--- how many parentheses are open behind a lexeme before which n are; none where it closes one too many
-abbrev pub open_behind : ℕ → Lexeme → Option ℕ
-open_behind n (mark c) = if c == 40 then Some (n + 1) else if c == 41 then (if n == 0 then None else Some (n - 1)) else Some n
-open_behind n _ = Some n
+-- how many parentheses are open after a lexeme before which n are; none where it closes one too many
+abbrev pub open_after : ℕ → Lexeme → Option ℕ
+open_after n (mark c) = if c == 40 then Some (n + 1) else if c == 41 then (if n == 0 then None else Some (n - 1)) else Some n
+open_after n _ = Some n
 
 -- the lexemes from one place to another
 abbrev pub between : ℕ → ℕ → List Lexeme → List Lexeme
 between from to all = take (to - from) (drop from all)
 
--- what a function returns that reads a list of lexemes from a place: the place behind it
+-- what a function returns that reads a list of lexemes from a place: the place after it
 abbrev pub Passes : ℕ → List Lexeme → Result ℕ Stop → Result (List Lexeme × List Lexeme) ℕ → Type 0
 Passes from all (Ok to) read = (from ≤ to) × (read ≡ Ok (between from to all, drop to all))
 Passes from all (Err (Stop.At place)) read = read ≡ Err (length (drop place all))
@@ -52,7 +53,7 @@ GivesTree all (Ok p) = Begins all p.0 p.1
 GivesTree all (Err (Stop.At place)) = read.sentence all ≡ Err (length (drop place all))
 GivesTree all (Err Stop.Memory) = Unit {0}
 
--- The lexemes stop being a sentence at the place, or are unfinished where it stands behind all of them.
+-- The lexemes stop being a sentence at the place, or are unfinished where it stands after all of them.
 abbrev pub IsStop : List Lexeme → Stop → Type 0
 IsStop all (Stop.At place) = StopsAt all place ⊎ ((length all ≤ place) × IsUnfinished all)
 IsStop all Stop.Memory = Unit {0}
@@ -62,3 +63,8 @@ pub record IsTree (all : List Lexeme) (t : FunctionTree) : Type 0 where
   pub is : IsSentence all (sentence_of all t)
   pub start : t.tail_start ≡ length (spell.header (sentence_of all t))
   pub tail : t.tail_start + length (between t.tail_start t.tail_end all) ≡ t.tail_end
+
+-- The tree has the lines of its items, where the tokens stand on these lines: its body stands after the header, the tail
+-- and a brace.
+abbrev pub HasItsLines : List ℕ → FunctionTree → Type 0
+HasItsLines numbers t = t.lines ≡ block_lines t.blocks (drop (suc t.tail_end) numbers)

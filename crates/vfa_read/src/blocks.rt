@@ -1,10 +1,12 @@
 //! Readers of blocks.
 
-ghost use Rattle.std.specs.Prelude.{◌≡◌, ◌∷◌, drop};
+ghost use Rattle.std.specs.Prelude.{◌≡◌, [], ◌∷◌, ◌++◌, drop, suc, IfOk};
+ghost use Rattle.vfa_ir.specs.TextLines.{block_lines, first_lines, item_lengths};
 ghost use Rattle.vfa_read.specs.Headers.{body};
-ghost use Rattle.vfa_read.specs.Productions.{starts_label, written_label, entry_label, block_behind, further_blocks};
+ghost use Rattle.vfa_read.specs.Items.{block_numbers};
+ghost use Rattle.vfa_read.specs.Productions.{block_labelled, block_rest, block_with, entry_label, further_blocks, starts_label, written_label};
 ghost use Rattle.vfa_read.specs.Readers.{Gives, made, next_passes};
-ghost use Rattle.vfa_read.specs.Seen.{all_of};
+ghost use Rattle.vfa_read.specs.Seen.{all_of, line_numbers};
 ghost use Rattle.vfa_read.specs.Trees.{blocks_of};
 
 use crate::source::{Seen, Source};
@@ -41,69 +43,98 @@ impl<'a> Source<'a> {
         Ok((None, at))
     }
 
-    /// The first block, which may lack a label.
-    #[tactic(auto, unfolding(crate::specs::Productions::block_behind))]
-    fn entry_block(&self, alloc: Global, at: usize) -> Result<(BasicBlock, usize), Stop>
-        ensures { Gives (all_of self.now) result (block_behind entry_label (drop at (all_of self.now))) }
-    {
-        let (label, at) = self.entry_label(alloc, at)?;
-        let (lines, at) = self.lines(alloc, at)?;
-        let (terminator, at) = self.terminator(alloc, at)?;
-        Ok((
-            BasicBlock {
-                label,
-                lines,
-                terminator,
-            },
-            at,
-        ))
-    }
-
-    #[tactic(auto, unfolding(crate::specs::Productions::block_behind))]
-    fn labelled_block(&self, alloc: Global, at: usize) -> Result<(BasicBlock, usize), Stop>
-        ensures { Gives (all_of self.now) result (block_behind written_label (drop at (all_of self.now))) }
-    {
-        let (label, at) = self.written_label(alloc, at)?;
-        let (lines, at) = self.lines(alloc, at)?;
-        let (terminator, at) = self.terminator(alloc, at)?;
-        Ok((
-            BasicBlock {
-                label,
-                lines,
-                terminator,
-            },
-            at,
-        ))
-    }
-
-    /// The first block and those behind it.
-    fn blocks_behind(
+    /// A block after its label. The lines on which its items begin are put last among these.
+    fn block_after(
         &self,
         alloc: Global,
+        lines: &mut Vec<Items<u32>>,
+        label: Option<Name>,
+        at: usize,
+    ) -> Result<(BasicBlock, usize), Stop>
+        ensures gives { Gives (all_of self.now) result (made (block_labelled label) block_rest (drop at (all_of self.now))) }
+        ensures lines { IfOk result (λ p. lines.new.items ≡ lines.old.items ++ first_lines (item_lengths p.0) (drop at (line_numbers self.now)) ∷ []) }
+    {
+        let mut numbers = Vec::new(alloc);
+        let (found, at) = self.lines(alloc, &mut numbers, at)?;
+        numbers.push(self.line_number(at))?;
+        let (terminator, at) = self.terminator(alloc, at)?;
+        lines.push(Items(numbers))?;
+        Ok((
+            BasicBlock {
+                label,
+                phis: found.phis,
+                instructions: found.instructions,
+                terminator,
+            },
+            at,
+        ))
+    }
+
+    /// The first block, which may lack a label.
+    #[tactic(auto, unfolding(crate::specs::Productions::block_with))]
+    fn entry_block(
+        &self,
+        alloc: Global,
+        lines: &mut Vec<Items<u32>>,
+        at: usize,
+    ) -> Result<(BasicBlock, usize), Stop>
+        ensures gives { Gives (all_of self.now) result (block_with entry_label (drop at (all_of self.now))) }
+        ensures lines { IfOk result (λ p. lines.new.items ≡ lines.old.items ++ block_numbers p.0 (drop at (line_numbers self.now)) ∷ []) }
+    {
+        let (label, at) = self.entry_label(alloc, at)?;
+        self.block_after(alloc, lines, label, at)
+    }
+
+    #[tactic(auto, unfolding(crate::specs::Productions::block_with))]
+    fn labelled_block(
+        &self,
+        alloc: Global,
+        lines: &mut Vec<Items<u32>>,
+        at: usize,
+    ) -> Result<(BasicBlock, usize), Stop>
+        ensures gives { Gives (all_of self.now) result (block_with written_label (drop at (all_of self.now))) }
+        ensures lines { IfOk result (λ p. lines.new.items ≡ lines.old.items ++ block_numbers p.0 (drop at (line_numbers self.now)) ∷ []) }
+    {
+        let (label, at) = self.written_label(alloc, at)?;
+        self.block_after(alloc, lines, label, at)
+    }
+
+    /// The first block and those after it.
+    fn blocks_after(
+        &self,
+        alloc: Global,
+        lines: &mut Vec<Items<u32>>,
         first: BasicBlock,
         from: usize,
     ) -> Result<(Items<BasicBlock>, usize), Stop>
-        ensures { Gives (all_of self.now) result (made (λ more. first ∷ more) further_blocks (drop from (all_of self.now))) }
+        ensures gives { Gives (all_of self.now) result (made (λ more. first ∷ more) further_blocks (drop from (all_of self.now))) }
+        ensures lines { IfOk result (λ p. lines.new.items ≡ lines.old.items ++ block_lines (drop 1 p.0) (drop from (line_numbers self.now))) }
     {
         let mut list = Vec::new(alloc);
         list.push(first)?;
         let mut at = from;
         'list: while self.starts_label(at) {
-            let (block, next) = self.labelled_block(alloc, at)?;
+            let (block, next) = self.labelled_block(alloc, lines, at)?;
             list.push(block)?;
             at = next;
         }
         Ok((Items(list), at))
     }
 
-    /// The body of a function: its blocks in braces.
+    /// The body of a function: its blocks in braces. The lines on which their items begin are put last among these.
     #[tactic(auto, unfolding(crate::specs::Headers::body))]
-    pub fn body(&self, alloc: Global, at: usize) -> Result<(Items<BasicBlock>, usize), Stop>
-        ensures { Gives (all_of self.now) result (made blocks_of body (drop at (all_of self.now))) }
+    pub fn body(
+        &self,
+        alloc: Global,
+        lines: &mut Vec<Items<u32>>,
+        at: usize,
+    ) -> Result<(Items<BasicBlock>, usize), Stop>
+        ensures gives { Gives (all_of self.now) result (made blocks_of body (drop at (all_of self.now))) }
+        ensures lines { IfOk result (λ p. lines.new.items ≡ lines.old.items ++ block_lines p.0 (drop (suc at) (line_numbers self.now))) }
     {
         let at = self.mark(at, b'{')?;
-        let (first, at) = self.entry_block(alloc, at)?;
-        let (blocks, at) = self.blocks_behind(alloc, first, at)?;
+        let (first, at) = self.entry_block(alloc, lines, at)?;
+        let (blocks, at) = self.blocks_after(alloc, lines, first, at)?;
         let at = self.mark(at, b'}')?;
         Ok((blocks, at))
     }

@@ -1,18 +1,18 @@
-//! Readers of calls of intrinsics, behind the word `call`.
+//! Readers of calls, after the word `call`.
 
-ghost use Rattle.std.specs.Prelude.{◌≡◌, ◌≤◌, drop, List, ℕ, codes};
-ghost use Rattle.vfa_read.specs.Productions.{arguments, strict_argument, argument, groups, is_group, two_call, one_call, callee_call, plain_call, over_call, call, assume};
-ghost use Rattle.vfa_read.specs.Readers.{Gives, Passes, one, next_passes};
+ghost use Rattle.std.specs.Prelude.{◌≡◌, ◌≤◌, ◌∷◌, drop};
+ghost use Rattle.vfa_ir.specs.Words.{over_word, overs};
+ghost use Rattle.vfa_read.specs.Productions.{after_commas, arguments, argument, assume_call, call, call_argument, call_arguments, callee_call, comma_list, groups, is_any_word, is_group, named_call, one_call, other_call, over_call, plain_call, strict_argument, two_call, void_call, void_callee_call};
+ghost use Rattle.vfa_read.specs.Readers.{Gives, made, next_passes, one, skip};
 ghost use Rattle.vfa_read.specs.Seen.{all_of};
-ghost use Rattle.vfa_read.specs.Tables.{callee_in, callees, overs, the_global};
+ghost use Rattle.vfa_read.specs.Tables.{callee_after, callee_in, the_mark, void_after};
 
-use crate::intrinsics::{Callee, callee_of, over_of};
-use crate::leaves::same;
+use crate::intrinsics::{Callee, Intrinsic, VoidCallee, callee_of, over_of, void_callee_of};
 use crate::names::written_name;
 use crate::source::{Seen, Source};
 use crate::stops::Stop;
 use std::alloc::Global;
-use vfa_ir::syntax::{CallWords, Literal, Operation, Written};
+use vfa_ir::syntax::{Argument, CallWords, Literal, Operation, Written};
 use vfa_ir::{Fun1, Fun2, Items, Name, Over};
 
 impl<'a> Source<'a> {
@@ -82,7 +82,7 @@ impl<'a> Source<'a> {
         false
     }
 
-    /// The attribute groups behind the arguments.
+    /// The attribute groups after the arguments.
     fn groups(&self, alloc: Global, from: usize) -> Result<(Items<Name>, usize), Stop>
         ensures { Gives (all_of self.now) result (groups (drop from (all_of self.now))) }
     {
@@ -152,15 +152,40 @@ impl<'a> Source<'a> {
         ))
     }
 
-    /// The intrinsic that is called.
-    fn callee(&self, alloc: Global, at: usize, width: u32) -> Result<(Callee, usize), Stop>
+    /// What is called, after these words and a type.
+    fn callee(
+        &self,
+        alloc: Global,
+        at: usize,
+        words: &[Name],
+        width: u32,
+    ) -> Result<(Callee, usize), Stop>
         requires least { 1 ≤ width }
         requires most { width ≤ 128 }
-        ensures { Gives (all_of self.now) result (one (callee_in callees width) (drop at (all_of self.now))) }
+        ensures { Gives (all_of self.now) result (one (callee_after words.now width) (drop at (all_of self.now))) }
     {
         if let Some(Seen::Global(text)) = self.seen(at) {
             if let Some(name) = written_name(alloc, text)? {
-                if let Some(callee) = callee_of(name.bytes(), width) {
+                if let Some(callee) = callee_of(words, name, width) {
+                    return Ok((callee, at + 1));
+                }
+            }
+        }
+        Err(Stop::At(at))
+    }
+
+    /// What is called, after these words and `void`.
+    fn void_callee(
+        &self,
+        alloc: Global,
+        at: usize,
+        words: &[Name],
+    ) -> Result<(VoidCallee, usize), Stop>
+        ensures { Gives (all_of self.now) result (one (void_after words.now) (drop at (all_of self.now))) }
+    {
+        if let Some(Seen::Global(text)) = self.seen(at) {
+            if let Some(name) = written_name(alloc, text)? {
+                if let Some(callee) = void_callee_of(words, name) {
                     return Ok((callee, at + 1));
                 }
             }
@@ -172,7 +197,7 @@ impl<'a> Source<'a> {
     fn over(&self, alloc: Global, at: usize, width: u32) -> Result<(Over, usize), Stop>
         requires least { 1 ≤ width }
         requires most { width ≤ 128 }
-        ensures { Gives (all_of self.now) result (one (callee_in overs width) (drop at (all_of self.now))) }
+        ensures { Gives (all_of self.now) result (one (callee_in over_word overs width) (drop at (all_of self.now))) }
     {
         if let Some(Seen::Global(text)) = self.seen(at) {
             if let Some(name) = written_name(alloc, text)? {
@@ -184,18 +209,99 @@ impl<'a> Source<'a> {
         Err(Stop::At(at))
     }
 
-    /// The place behind a global of a known name.
-    fn global_named(&self, alloc: Global, at: usize, known: &[u8]) -> Result<usize, Stop>
-        ensures { Passes (all_of self.now) result (one (the_global known.now) (drop at (all_of self.now))) }
+    /// `T`, attributes, `V`
+    #[tactic(auto, unfolding(crate::specs::Productions::call_argument))]
+    fn call_argument(&self, alloc: Global, at: usize) -> Result<(Argument, usize), Stop>
+        ensures { Gives (all_of self.now) result (call_argument (drop at (all_of self.now))) }
     {
-        if let Some(Seen::Global(text)) = self.seen(at) {
-            if let Some(name) = written_name(alloc, text)? {
-                if same(name.bytes(), known) {
-                    return Ok(at + 1);
-                }
-            }
+        let (width, at) = self.width(at)?;
+        let (words, at) = self.attributes(alloc, at)?;
+        let (value, at) = self.value(alloc, at, width)?;
+        Ok((
+            Argument {
+                width,
+                words,
+                value,
+            },
+            at,
+        ))
+    }
+
+    /// A comma and an argument.
+    fn further_argument(&self, alloc: Global, at: usize) -> Result<(Argument, usize), Stop>
+        ensures { Gives (all_of self.now) result (skip (the_mark 44) call_argument (drop at (all_of self.now))) }
+    {
+        let at = self.mark(at, b',')?;
+        self.call_argument(alloc, at)
+    }
+
+    /// An argument and those after it.
+    fn arguments_after(
+        &self,
+        alloc: Global,
+        first: Argument,
+        from: usize,
+    ) -> Result<(Items<Argument>, usize), Stop>
+        ensures { Gives (all_of self.now) result (made (λ more. first ∷ more) (after_commas call_argument) (drop from (all_of self.now))) }
+    {
+        let mut list = Vec::new(alloc);
+        list.push(first)?;
+        let mut at = from;
+        'list: while self.has_mark(at, b',') {
+            let (argument, next) = self.further_argument(alloc, at)?;
+            list.push(argument)?;
+            at = next;
         }
-        Err(Stop::At(at))
+        Ok((Items(list), at))
+    }
+
+    fn argument_list(&self, alloc: Global, at: usize) -> Result<(Items<Argument>, usize), Stop>
+        ensures { Gives (all_of self.now) result (comma_list is_any_word call_argument (drop at (all_of self.now))) }
+    {
+        if self.has_any_word(at) {
+            let (first, at) = self.call_argument(alloc, at)?;
+            return self.arguments_after(alloc, first, at);
+        }
+        Ok((Items(Vec::new(alloc)), at))
+    }
+
+    /// The arguments of a call, in parentheses.
+    #[tactic(auto, unfolding(crate::specs::Productions::call_arguments))]
+    fn call_arguments(&self, alloc: Global, at: usize) -> Result<(Items<Argument>, usize), Stop>
+        ensures { Gives (all_of self.now) result (call_arguments (drop at (all_of self.now))) }
+    {
+        let at = self.mark(at, b'(')?;
+        let (arguments, at) = self.argument_list(alloc, at)?;
+        let at = self.mark(at, b')')?;
+        Ok((arguments, at))
+    }
+
+    /// A call of a function that is no intrinsic, after its name.
+    #[tactic(auto, unfolding(crate::specs::Productions::other_call))]
+    fn other_call(
+        &self,
+        alloc: Global,
+        at: usize,
+        marker: Option<Name>,
+        words: Items<Name>,
+        width: Option<u32>,
+        callee: Name,
+    ) -> Result<(Operation, usize), Stop>
+        ensures { Gives (all_of self.now) result (other_call marker words width callee (drop at (all_of self.now))) }
+    {
+        let (arguments, at) = self.call_arguments(alloc, at)?;
+        let (groups, at) = self.groups(alloc, at)?;
+        let call = CallWords { marker, groups };
+        Ok((
+            Operation::Call {
+                call,
+                words,
+                width,
+                callee,
+                arguments,
+            },
+            at,
+        ))
     }
 
     fn callee_call(
@@ -203,17 +309,34 @@ impl<'a> Source<'a> {
         alloc: Global,
         at: usize,
         marker: Option<Name>,
+        words: Items<Name>,
         width: u32,
         callee: Callee,
     ) -> Result<(Operation, usize), Stop>
         requires least { 1 ≤ width }
         requires most { width ≤ 128 }
-        ensures { Gives (all_of self.now) result (callee_call marker width callee (drop at (all_of self.now))) }
+        ensures { Gives (all_of self.now) result (callee_call marker words width callee (drop at (all_of self.now))) }
     {
         match callee {
-            Callee::Two(fun) => self.two_call(alloc, at, marker, width, fun),
-            Callee::One(fun) => self.one_call(alloc, at, marker, width, fun),
+            Callee::Known(Intrinsic::Two(fun)) => self.two_call(alloc, at, marker, width, fun),
+            Callee::Known(Intrinsic::One(fun)) => self.one_call(alloc, at, marker, width, fun),
+            Callee::Other(name) => self.other_call(alloc, at, marker, words, Some(width), name),
         }
+    }
+
+    /// A call with a result, after its words.
+    fn named_call(
+        &self,
+        alloc: Global,
+        at: usize,
+        marker: Option<Name>,
+        words: Items<Name>,
+    ) -> Result<(Operation, usize), Stop>
+        ensures { Gives (all_of self.now) result (named_call marker words (drop at (all_of self.now))) }
+    {
+        let (width, at) = self.width(at)?;
+        let (callee, at) = self.callee(alloc, at, words.as_slice(), width)?;
+        self.callee_call(alloc, at, marker, words, width, callee)
     }
 
     #[tactic(auto, unfolding(crate::specs::Productions::plain_call))]
@@ -225,9 +348,8 @@ impl<'a> Source<'a> {
     ) -> Result<(Operation, usize), Stop>
         ensures { Gives (all_of self.now) result (plain_call marker (drop at (all_of self.now))) }
     {
-        let (width, at) = self.width(at)?;
-        let (callee, at) = self.callee(alloc, at, width)?;
-        self.callee_call(alloc, at, marker, width, callee)
+        let (words, at) = self.call_words(alloc, at)?;
+        self.named_call(alloc, at, marker, words)
     }
 
     #[tactic(auto, unfolding(crate::specs::Productions::over_call))]
@@ -271,17 +393,16 @@ impl<'a> Source<'a> {
         self.plain_call(alloc, at, marker)
     }
 
-    #[tactic(auto, unfolding(crate::specs::Productions::assume))]
-    pub fn assume(
+    /// A call of `llvm.assume`, after its name.
+    #[tactic(auto, unfolding(crate::specs::Productions::assume_call))]
+    fn assume_call(
         &self,
         alloc: Global,
         at: usize,
         marker: Option<Name>,
     ) -> Result<(Operation, usize), Stop>
-        ensures { Gives (all_of self.now) result (assume marker (drop at (all_of self.now))) }
+        ensures { Gives (all_of self.now) result (assume_call marker (drop at (all_of self.now))) }
     {
-        let at = self.word(at, b"void")?;
-        let at = self.global_named(alloc, at, b"llvm.assume")?;
         let at = self.mark(at, b'(')?;
         let at = self.type_of_width(at, 1)?;
         let (c, at) = self.value(alloc, at, 1)?;
@@ -289,5 +410,37 @@ impl<'a> Source<'a> {
         let (groups, at) = self.groups(alloc, at)?;
         let call = CallWords { marker, groups };
         Ok((Operation::Assume { call, c }, at))
+    }
+
+    fn void_callee_call(
+        &self,
+        alloc: Global,
+        at: usize,
+        marker: Option<Name>,
+        words: Items<Name>,
+        callee: VoidCallee,
+    ) -> Result<(Operation, usize), Stop>
+        ensures { Gives (all_of self.now) result (void_callee_call marker words callee (drop at (all_of self.now))) }
+    {
+        match callee {
+            VoidCallee::Assume => self.assume_call(alloc, at, marker),
+            VoidCallee::Other(name) => self.other_call(alloc, at, marker, words, None, name),
+        }
+    }
+
+    /// A call without a result.
+    #[tactic(auto, unfolding(crate::specs::Productions::void_call))]
+    pub fn void_call(
+        &self,
+        alloc: Global,
+        at: usize,
+        marker: Option<Name>,
+    ) -> Result<(Operation, usize), Stop>
+        ensures { Gives (all_of self.now) result (void_call marker (drop at (all_of self.now))) }
+    {
+        let (words, at) = self.call_words(alloc, at)?;
+        let at = self.word(at, b"void")?;
+        let (callee, at) = self.void_callee(alloc, at, words.as_slice())?;
+        self.void_callee_call(alloc, at, marker, words, callee)
     }
 }

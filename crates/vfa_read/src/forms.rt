@@ -1,17 +1,17 @@
 //! The words that operations and terminators begin with.
 
 ghost use Rattle.std.specs.Prelude.{◌≡◌, drop};
-ghost use Rattle.vfa_read.specs.Productions.{forms, form_rest, operation, endings, ending_rest, transfer, terminator, marked_call};
+ghost use Rattle.vfa_ir.specs.Words.{keyword};
+ghost use Rattle.vfa_read.specs.Productions.{forms, form_rest, form_word, operation, endings, ending_rest, ending_word, terminator_kind, terminator, marked_call};
 ghost use Rattle.vfa_read.specs.Readers.{Gives, one};
 ghost use Rattle.vfa_read.specs.Seen.{all_of};
-ghost use Rattle.vfa_read.specs.Tables.{lookup, word_in};
+ghost use Rattle.vfa_read.specs.Tables.{keyword_in};
 
-use crate::leaves::same;
 use crate::source::{Seen, Source};
 use crate::stops::Stop;
 use std::alloc::Global;
-use vfa_ir::syntax::{Operation, Terminator, Transfer};
-use vfa_ir::{Bin, Cast, Name};
+use vfa_ir::syntax::{Operation, Terminator, TerminatorKind};
+use vfa_ir::{Bin, Cast, Keyword, Name, keyword_of};
 
 /// What an operation begins with.
 #[derive(Clone, Copy)]
@@ -49,102 +49,72 @@ pub enum Ending {
     Unreachable,
 }
 
-fn form_of(text: &[u8]) -> Option<Form>
-    ensures { result ≡ lookup forms text.now }
-{
-    if same(text, b"add") {
-        return Some(Form::Binary(Bin::Add));
+impl Keyword for Form {
+    ghost spelled = { form_word };
+
+    fn word(self) -> &'static [u8] {
+        match self {
+            Form::Binary(bin) => bin.word(),
+            Form::Compare => b"icmp",
+            Form::Select => b"select",
+            Form::Convert(cast) => cast.word(),
+            Form::Freeze => b"freeze",
+            Form::Extract => b"extractvalue",
+            Form::Call => b"call",
+            Form::Tail => b"tail",
+            Form::Notail => b"notail",
+        }
     }
-    if same(text, b"sub") {
-        return Some(Form::Binary(Bin::Sub));
-    }
-    if same(text, b"mul") {
-        return Some(Form::Binary(Bin::Mul));
-    }
-    if same(text, b"shl") {
-        return Some(Form::Binary(Bin::Shl));
-    }
-    if same(text, b"udiv") {
-        return Some(Form::Binary(Bin::Udiv));
-    }
-    if same(text, b"sdiv") {
-        return Some(Form::Binary(Bin::Sdiv));
-    }
-    if same(text, b"lshr") {
-        return Some(Form::Binary(Bin::Lshr));
-    }
-    if same(text, b"ashr") {
-        return Some(Form::Binary(Bin::Ashr));
-    }
-    if same(text, b"urem") {
-        return Some(Form::Binary(Bin::Urem));
-    }
-    if same(text, b"srem") {
-        return Some(Form::Binary(Bin::Srem));
-    }
-    if same(text, b"and") {
-        return Some(Form::Binary(Bin::And));
-    }
-    if same(text, b"or") {
-        return Some(Form::Binary(Bin::Or));
-    }
-    if same(text, b"xor") {
-        return Some(Form::Binary(Bin::Xor));
-    }
-    if same(text, b"icmp") {
-        return Some(Form::Compare);
-    }
-    if same(text, b"select") {
-        return Some(Form::Select);
-    }
-    if same(text, b"zext") {
-        return Some(Form::Convert(Cast::Zext));
-    }
-    if same(text, b"sext") {
-        return Some(Form::Convert(Cast::Sext));
-    }
-    if same(text, b"trunc") {
-        return Some(Form::Convert(Cast::Trunc));
-    }
-    if same(text, b"freeze") {
-        return Some(Form::Freeze);
-    }
-    if same(text, b"extractvalue") {
-        return Some(Form::Extract);
-    }
-    if same(text, b"call") {
-        return Some(Form::Call);
-    }
-    if same(text, b"tail") {
-        return Some(Form::Tail);
-    }
-    if same(text, b"notail") {
-        return Some(Form::Notail);
-    }
-    None
 }
 
-fn ending_of(text: &[u8]) -> Option<Ending>
-    ensures { result ≡ lookup endings text.now }
+/// The forms that are no binary operation and no conversion.
+const OTHER_FORMS: [Form; 7] = [
+    Form::Compare,
+    Form::Select,
+    Form::Freeze,
+    Form::Extract,
+    Form::Call,
+    Form::Tail,
+    Form::Notail,
+];
+
+impl Keyword for Ending {
+    ghost spelled = { ending_word };
+
+    fn word(self) -> &'static [u8] {
+        match self {
+            Ending::Return => b"ret",
+            Ending::Branch => b"br",
+            Ending::Switch => b"switch",
+            Ending::Unreachable => b"unreachable",
+        }
+    }
+}
+
+const ENDINGS: [Ending; 4] = [
+    Ending::Return,
+    Ending::Branch,
+    Ending::Switch,
+    Ending::Unreachable,
+];
+
+/// The operation that begins with a word.
+#[tactic(auto, using(crate::proofs::KeywordTables::binary_form, crate::proofs::KeywordTables::convert_form, crate::proofs::KeywordTables::other_form))]
+fn form_of(text: &[u8]) -> Option<Form>
+    ensures { result ≡ keyword form_word forms text.now }
 {
-    if same(text, b"ret") {
-        return Some(Ending::Return);
+    if let Some(bin) = keyword_of(&Bin::ALL, text) {
+        return Some(Form::Binary(bin));
     }
-    if same(text, b"br") {
-        return Some(Ending::Branch);
+    if let Some(cast) = keyword_of(&Cast::ALL, text) {
+        return Some(Form::Convert(cast));
     }
-    if same(text, b"switch") {
-        return Some(Ending::Switch);
-    }
-    if same(text, b"unreachable") {
-        return Some(Ending::Unreachable);
-    }
-    None
+    keyword_of(&OTHER_FORMS, text)
 }
 
 impl<'a> Source<'a> {
     fn form(&self, at: usize) -> Result<(Form, usize), Stop>
-        ensures { Gives (all_of self.now) result (one (word_in forms) (drop at (all_of self.now))) }
+        ensures { Gives (all_of self.now) result (one (keyword_in form_word forms) (drop at (all_of self.now))) }
     {
         if let Some(Seen::Word(found)) = self.seen(at) {
             if let Some(form) = form_of(found) {
@@ -155,10 +125,10 @@ impl<'a> Source<'a> {
     }
 
     fn ending(&self, at: usize) -> Result<(Ending, usize), Stop>
-        ensures { Gives (all_of self.now) result (one (word_in endings) (drop at (all_of self.now))) }
+        ensures { Gives (all_of self.now) result (one (keyword_in ending_word endings) (drop at (all_of self.now))) }
     {
         if let Some(Seen::Word(found)) = self.seen(at) {
-            if let Some(ending) = ending_of(found) {
+            if let Some(ending) = keyword_of(&ENDINGS, found) {
                 return Ok((ending, at + 1));
             }
         }
@@ -208,32 +178,32 @@ impl<'a> Source<'a> {
         alloc: Global,
         at: usize,
         ending: Ending,
-    ) -> Result<(Transfer, usize), Stop>
+    ) -> Result<(TerminatorKind, usize), Stop>
         ensures { Gives (all_of self.now) result (ending_rest ending (drop at (all_of self.now))) }
     {
         match ending {
             Ending::Return => self.returned(alloc, at),
             Ending::Branch => self.branch(alloc, at),
             Ending::Switch => self.switch(alloc, at),
-            Ending::Unreachable => Ok((Transfer::Unreachable, at)),
+            Ending::Unreachable => Ok((TerminatorKind::Unreachable, at)),
         }
     }
 
-    #[tactic(auto, unfolding(crate::specs::Productions::transfer))]
-    fn transfer(&self, alloc: Global, at: usize) -> Result<(Transfer, usize), Stop>
-        ensures { Gives (all_of self.now) result (transfer (drop at (all_of self.now))) }
+    #[tactic(auto, unfolding(crate::specs::Productions::terminator_kind))]
+    fn terminator_kind(&self, alloc: Global, at: usize) -> Result<(TerminatorKind, usize), Stop>
+        ensures { Gives (all_of self.now) result (terminator_kind (drop at (all_of self.now))) }
     {
         let (ending, at) = self.ending(at)?;
         self.ending_rest(alloc, at, ending)
     }
 
-    /// A terminator with the metadata behind it.
+    /// A terminator with the metadata after it.
     #[tactic(auto, unfolding(crate::specs::Productions::terminator))]
     pub fn terminator(&self, alloc: Global, at: usize) -> Result<(Terminator, usize), Stop>
         ensures { Gives (all_of self.now) result (terminator (drop at (all_of self.now))) }
     {
-        let (transfer, at) = self.transfer(alloc, at)?;
+        let (kind, at) = self.terminator_kind(alloc, at)?;
         let (attached, at) = self.attachments(alloc, at)?;
-        Ok((Terminator { transfer, attached }, at))
+        Ok((Terminator { kind, attached }, at))
     }
 }

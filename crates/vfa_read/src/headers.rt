@@ -1,14 +1,13 @@
 //! Readers of the header of a function.
 
 ghost use Rattle.std.specs.Prelude.{◌≡◌, ◌∷◌, drop};
-ghost use Rattle.vfa_ir.specs.Words.{is_among, lead_words as words_of_lead, parameter_words as words_of_parameter};
-ghost use Rattle.vfa_read.specs.Headers.{word_among, is_word_among, words_among, starts_name, optional_name, parameter, further_parameters, parameters, header};
-ghost use Rattle.vfa_read.specs.Readers.{Gives, made, skip, one, next_passes};
+ghost use Rattle.vfa_read.specs.Headers.{starts_name, optional_name, parameter, parameters, header};
+ghost use Rattle.vfa_read.specs.Productions.{after_commas};
+ghost use Rattle.vfa_read.specs.Readers.{Gives, made, skip, next_passes};
 ghost use Rattle.vfa_read.specs.Seen.{all_of};
 ghost use Rattle.vfa_read.specs.Tables.{the_mark};
 ghost use Rattle.vfa_read.specs.Trees.{header_of};
 
-use crate::leaves::same;
 use crate::source::{Seen, Source};
 use crate::stops::Stop;
 use std::alloc::Global;
@@ -28,159 +27,7 @@ pub struct FunctionHeader {
     pub parameters: Items<Parameter>,
 }
 
-/// Whether a word may stand between `define` and the type of the result.
-fn is_lead_word(text: &[u8]) -> bool
-    ensures { result ≡ is_among text.now words_of_lead }
-{
-    if same(text, b"private") {
-        return true;
-    }
-    if same(text, b"internal") {
-        return true;
-    }
-    if same(text, b"available_externally") {
-        return true;
-    }
-    if same(text, b"linkonce") {
-        return true;
-    }
-    if same(text, b"weak") {
-        return true;
-    }
-    if same(text, b"linkonce_odr") {
-        return true;
-    }
-    if same(text, b"weak_odr") {
-        return true;
-    }
-    if same(text, b"external") {
-        return true;
-    }
-    if same(text, b"dso_local") {
-        return true;
-    }
-    if same(text, b"dso_preemptable") {
-        return true;
-    }
-    if same(text, b"default") {
-        return true;
-    }
-    if same(text, b"hidden") {
-        return true;
-    }
-    if same(text, b"protected") {
-        return true;
-    }
-    if same(text, b"dllexport") {
-        return true;
-    }
-    if same(text, b"ccc") {
-        return true;
-    }
-    if same(text, b"fastcc") {
-        return true;
-    }
-    if same(text, b"coldcc") {
-        return true;
-    }
-    if same(text, b"tailcc") {
-        return true;
-    }
-    if same(text, b"noundef") {
-        return true;
-    }
-    if same(text, b"zeroext") {
-        return true;
-    }
-    if same(text, b"signext") {
-        return true;
-    }
-    if same(text, b"inreg") {
-        return true;
-    }
-    false
-}
-
-/// Whether a word may stand between the type of a parameter and its name.
-fn is_attribute(text: &[u8]) -> bool
-    ensures { result ≡ is_among text.now words_of_parameter }
-{
-    same(text, b"noundef")
-        || same(text, b"zeroext")
-        || same(text, b"signext")
-        || same(text, b"inreg")
-        || same(text, b"returned")
-}
-
 impl<'a> Source<'a> {
-    fn has_attribute(&self, at: usize) -> bool
-        ensures { result ≡ next_passes (is_word_among words_of_parameter) (drop at (all_of self.now)) }
-    {
-        if let Some(Seen::Word(found)) = self.seen(at) {
-            return is_attribute(found);
-        }
-        false
-    }
-
-    fn attribute(&self, alloc: Global, at: usize) -> Result<(Name, usize), Stop>
-        ensures { Gives (all_of self.now) result (one (word_among words_of_parameter) (drop at (all_of self.now))) }
-    {
-        if let Some(Seen::Word(found)) = self.seen(at) {
-            if is_attribute(found) {
-                return Ok((Name::of(alloc, found)?, at + 1));
-            }
-        }
-        Err(Stop::At(at))
-    }
-
-    /// The attributes of a parameter.
-    fn attributes(&self, alloc: Global, from: usize) -> Result<(Items<Name>, usize), Stop>
-        ensures { Gives (all_of self.now) result (words_among words_of_parameter (drop from (all_of self.now))) }
-    {
-        let mut list = Vec::new(alloc);
-        let mut at = from;
-        'list: while self.has_attribute(at) {
-            let (word, next) = self.attribute(alloc, at)?;
-            list.push(word)?;
-            at = next;
-        }
-        Ok((Items(list), at))
-    }
-
-    fn has_lead_word(&self, at: usize) -> bool
-        ensures { result ≡ next_passes (is_word_among words_of_lead) (drop at (all_of self.now)) }
-    {
-        if let Some(Seen::Word(found)) = self.seen(at) {
-            return is_lead_word(found);
-        }
-        false
-    }
-
-    fn lead_word(&self, alloc: Global, at: usize) -> Result<(Name, usize), Stop>
-        ensures { Gives (all_of self.now) result (one (word_among words_of_lead) (drop at (all_of self.now))) }
-    {
-        if let Some(Seen::Word(found)) = self.seen(at) {
-            if is_lead_word(found) {
-                return Ok((Name::of(alloc, found)?, at + 1));
-            }
-        }
-        Err(Stop::At(at))
-    }
-
-    /// The words between `define` and the type of the result.
-    pub fn lead_words(&self, alloc: Global, from: usize) -> Result<(Items<Name>, usize), Stop>
-        ensures { Gives (all_of self.now) result (words_among words_of_lead (drop from (all_of self.now))) }
-    {
-        let mut list = Vec::new(alloc);
-        let mut at = from;
-        'list: while self.has_lead_word(at) {
-            let (word, next) = self.lead_word(alloc, at)?;
-            list.push(word)?;
-            at = next;
-        }
-        Ok((Items(list), at))
-    }
-
     #[tactic(auto, using(crate::proofs::Starts::name_starts))]
     fn has_name(&self, at: usize) -> bool
         ensures { result ≡ next_passes starts_name (drop at (all_of self.now)) }
@@ -220,14 +67,14 @@ impl<'a> Source<'a> {
         self.parameter(alloc, at)
     }
 
-    /// A parameter and those behind it.
-    fn parameters_behind(
+    /// A parameter and those after it.
+    fn parameters_after(
         &self,
         alloc: Global,
         first: Parameter,
         from: usize,
     ) -> Result<(Items<Parameter>, usize), Stop>
-        ensures { Gives (all_of self.now) result (made (λ more. first ∷ more) further_parameters (drop from (all_of self.now))) }
+        ensures { Gives (all_of self.now) result (made (λ more. first ∷ more) (after_commas parameter) (drop from (all_of self.now))) }
     {
         let mut list = Vec::new(alloc);
         list.push(first)?;
@@ -247,7 +94,7 @@ impl<'a> Source<'a> {
     {
         if self.has_any_word(at) {
             let (first, at) = self.parameter(alloc, at)?;
-            return self.parameters_behind(alloc, first, at);
+            return self.parameters_after(alloc, first, at);
         }
         Ok((Items(Vec::new(alloc)), at))
     }

@@ -1,9 +1,10 @@
 //! Readers of one token.
 
 ghost use Rattle.std.specs.Prelude.{◌≡◌, ◌≤◌, drop, bytes_eq, IfOk};
+ghost use Rattle.vfa_ir.specs.Words.{pred_word, preds};
 ghost use Rattle.vfa_read.specs.Readers.{Gives, Passes, one};
 ghost use Rattle.vfa_read.specs.Seen.{all_of};
-ghost use Rattle.vfa_read.specs.Tables.{the_mark, the_word, word_in, preds, lookup, local_name, global_name, label_name, group_digits, metadata_kind, metadata_node, type_of, the_type, part_index, literal_of, value_of, literal_word as word_literal};
+ghost use Rattle.vfa_read.specs.Tables.{the_mark, the_word, keyword_in, local_name, global_name, label_name, group_digits, metadata_kind, metadata_node, type_of, the_type, part_index, literal_of, value_of, literal_word as word_literal};
 
 use crate::names::written_name;
 use crate::numbers::{fits_number, is_digits, is_number, type_width};
@@ -11,49 +12,13 @@ use crate::source::{Seen, Source};
 use crate::stops::Stop;
 use std::alloc::Global;
 use vfa_ir::syntax::{Literal, Written};
-use vfa_ir::{Name, Pred};
+use vfa_ir::{Name, Pred, keyword_of};
 
 /// Whether two texts are the same.
 pub fn same(text: &[u8], other: &[u8]) -> bool
     ensures { result ≡ bytes_eq text.now other.now }
 {
     text == other
-}
-
-fn pred_of(text: &[u8]) -> Option<Pred>
-    ensures { result ≡ lookup preds text.now }
-{
-    if same(text, b"eq") {
-        return Some(Pred::Eq);
-    }
-    if same(text, b"ne") {
-        return Some(Pred::Ne);
-    }
-    if same(text, b"ugt") {
-        return Some(Pred::Ugt);
-    }
-    if same(text, b"uge") {
-        return Some(Pred::Uge);
-    }
-    if same(text, b"ult") {
-        return Some(Pred::Ult);
-    }
-    if same(text, b"ule") {
-        return Some(Pred::Ule);
-    }
-    if same(text, b"sgt") {
-        return Some(Pred::Sgt);
-    }
-    if same(text, b"sge") {
-        return Some(Pred::Sge);
-    }
-    if same(text, b"slt") {
-        return Some(Pred::Slt);
-    }
-    if same(text, b"sle") {
-        return Some(Pred::Sle);
-    }
-    None
 }
 
 /// `true` or `false` at width 1.
@@ -73,7 +38,7 @@ fn literal_word(text: &[u8], width: u32) -> Option<Literal>
 }
 
 impl<'a> Source<'a> {
-    /// The place behind a mark.
+    /// The place after a mark.
     pub fn mark(&self, at: usize, mark: u8) -> Result<usize, Stop>
         ensures { Passes (all_of self.now) result (one (the_mark mark) (drop at (all_of self.now))) }
     {
@@ -85,7 +50,7 @@ impl<'a> Source<'a> {
         Err(Stop::At(at))
     }
 
-    /// The place behind a word.
+    /// The place after a word.
     pub fn word(&self, at: usize, word: &[u8]) -> Result<usize, Stop>
         ensures { Passes (all_of self.now) result (one (the_word word.now) (drop at (all_of self.now))) }
     {
@@ -99,10 +64,10 @@ impl<'a> Source<'a> {
 
     /// A predicate of `icmp`.
     pub fn pred(&self, at: usize) -> Result<(Pred, usize), Stop>
-        ensures { Gives (all_of self.now) result (one (word_in preds) (drop at (all_of self.now))) }
+        ensures { Gives (all_of self.now) result (one (keyword_in pred_word preds) (drop at (all_of self.now))) }
     {
         if let Some(Seen::Word(found)) = self.seen(at) {
-            if let Some(pred) = pred_of(found) {
+            if let Some(pred) = keyword_of(&Pred::ALL, found) {
                 return Ok((pred, at + 1));
             }
         }
@@ -192,7 +157,7 @@ impl<'a> Source<'a> {
         Err(Stop::At(at))
     }
 
-    /// The place behind the type of this width.
+    /// The place after the type of this width.
     pub fn type_of_width(&self, at: usize, width: u32) -> Result<usize, Stop>
         ensures { Passes (all_of self.now) result (one (the_type width) (drop at (all_of self.now))) }
     {

@@ -3,27 +3,26 @@
 
 mod blocks;
 mod calls;
-mod extents;
 mod forms;
 mod headers;
 mod intrinsics;
 mod laws;
 mod leaves;
-mod line_numbers;
 mod lines;
 mod names;
 mod numbers;
 mod operations;
 mod parts;
+mod phis;
 mod reading;
 mod resolution;
 mod sentences;
 mod source;
 mod stops;
 mod tails;
+mod terminators;
 #[cfg(test)]
 mod tests;
-mod transfers;
 
 pub use laws::{one_reading, one_tree, sentence_or_shape};
 pub use names::token_name;

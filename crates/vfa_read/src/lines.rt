@@ -1,24 +1,57 @@
 //! Readers of the lines of a block.
 
-ghost use Rattle.std.specs.Prelude.{◌≡◌, ◌≤◌, drop, true};
-ghost use Rattle.vfa_read.specs.Productions.{incoming, part_reader, phi_part, still_operands, phi_parts, phi_rest, plain_rest, defined_rest, defined_line, marker_word, call_marker, assume_line, is_call_word, starts_call, line, starts_line, still_phis, lines};
+ghost use Rattle.std.specs.Prelude.{◌≡◌, [], ◌∷◌, ◌++◌, drop, IfOk};
+ghost use Rattle.vfa_read.specs.Items.{instructions_of, line_lengths, lines_of, phis_of};
+ghost use Rattle.vfa_read.specs.Productions.{call_marker, defined_line, defined_rest, is_call_word, block_lines, line, marker_word, plain_rest, starts_call, starts_line, still_phis, void_line};
 ghost use Rattle.vfa_read.specs.Readers.{Gives, next_passes};
-ghost use Rattle.vfa_read.specs.Seen.{all_of};
+ghost use Rattle.vfa_read.specs.Seen.{all_of, line_numbers};
+ghost use Rattle.vfa_ir.specs.TextLines.{first_lines};
 
 use crate::leaves::same;
 use crate::source::{Seen, Source};
 use crate::stops::Stop;
-use std::alloc::Global;
-use vfa_ir::syntax::{Incoming, Instruction, Line, PhiNode, PhiPart};
+use std::alloc::{AllocError, Global};
+use vfa_ir::syntax::{Instruction, PhiNode};
 use vfa_ir::{Items, Name};
 
-/// Whether operands of the phi may still follow.
-fn still_operands(operands: bool, part: &PhiPart) -> bool
-    ensures { result ≡ still_operands operands part.now }
-{
-    match part {
-        PhiPart::Entry(_) => operands,
-        PhiPart::Attached(_) => false,
+/// A line of a block before its terminator.
+#[derive(Drop)]
+pub enum Line {
+    /// A phi.
+    Phi(PhiNode),
+    /// Another instruction.
+    Plain(Instruction),
+}
+
+/// The lines of a block before its terminator.
+#[derive(Drop)]
+pub struct BlockLines {
+    /// The phis.
+    pub phis: Items<PhiNode>,
+    /// The other instructions.
+    pub instructions: Items<Instruction>,
+}
+
+impl BlockLines {
+    fn new(alloc: Global) -> BlockLines
+        ensures { result ≡ lines_of [] }
+    {
+        BlockLines {
+            phis: Items(Vec::new(alloc)),
+            instructions: Items(Vec::new(alloc)),
+        }
+    }
+
+    /// Puts a line last.
+    fn push(&mut self, line: Line) -> Result<(), AllocError>
+        ensures phis { IfOk result (λ _. self.new.phis ≡ self.old.phis ++ phis_of (line ∷ [])) }
+        ensures instructions { IfOk result (λ _. self.new.instructions ≡ self.old.instructions ++ instructions_of (line ∷ [])) }
+    {
+        match line {
+            Line::Phi(phi) => self.phis.0.push(phi)?,
+            Line::Plain(instruction) => self.instructions.0.push(instruction)?,
+        }
+        Ok(())
     }
 }
 
@@ -46,98 +79,6 @@ fn is_call_word(text: &[u8]) -> bool
 }
 
 impl<'a> Source<'a> {
-    /// `[ V , %name ]`
-    #[tactic(auto, unfolding(crate::specs::Productions::incoming))]
-    fn incoming(&self, alloc: Global, at: usize, width: u32) -> Result<(Incoming, usize), Stop>
-        requires least { 1 ≤ width }
-        requires most { width ≤ 128 }
-        ensures { Gives (all_of self.now) result (incoming width (drop at (all_of self.now))) }
-    {
-        let at = self.mark(at, b'[')?;
-        let (value, at) = self.value(alloc, at, width)?;
-        let at = self.mark(at, b',')?;
-        let (block, at) = self.local(alloc, at)?;
-        let at = self.mark(at, b']')?;
-        Ok((Incoming { value, block }, at))
-    }
-
-    fn part_reader(
-        &self,
-        alloc: Global,
-        at: usize,
-        width: u32,
-        operands: bool,
-    ) -> Result<(PhiPart, usize), Stop>
-        requires least { 1 ≤ width }
-        requires most { width ≤ 128 }
-        ensures { Gives (all_of self.now) result (part_reader width operands (drop at (all_of self.now))) }
-    {
-        if operands {
-            if self.has_mark(at, b'[') {
-                let (entry, at) = self.incoming(alloc, at, width)?;
-                return Ok((PhiPart::Entry(entry), at));
-            }
-        }
-        let (attachment, at) = self.metadata_pair(alloc, at)?;
-        Ok((PhiPart::Attached(attachment), at))
-    }
-
-    /// What stands behind a comma of a phi.
-    #[tactic(auto, unfolding(crate::specs::Productions::phi_part))]
-    fn phi_part(
-        &self,
-        alloc: Global,
-        at: usize,
-        width: u32,
-        operands: bool,
-    ) -> Result<(PhiPart, usize), Stop>
-        requires least { 1 ≤ width }
-        requires most { width ≤ 128 }
-        ensures { Gives (all_of self.now) result (phi_part width operands (drop at (all_of self.now))) }
-    {
-        let at = self.mark(at, b',')?;
-        self.part_reader(alloc, at, width, operands)
-    }
-
-    /// The further operands of a phi, and the metadata behind them.
-    fn phi_parts(
-        &self,
-        alloc: Global,
-        from: usize,
-        width: u32,
-    ) -> Result<(Items<PhiPart>, usize), Stop>
-        requires least { 1 ≤ width }
-        requires most { width ≤ 128 }
-        ensures { Gives (all_of self.now) result (phi_parts width true (drop from (all_of self.now))) }
-    {
-        let mut list = Vec::new(alloc);
-        let mut at = from;
-        let mut operands = true;
-        'list: while self.has_mark(at, b',') {
-            let (part, next) = self.phi_part(alloc, at, width, operands)?;
-            operands = still_operands(operands, &part);
-            list.push(part)?;
-            at = next;
-        }
-        Ok((Items(list), at))
-    }
-
-    #[tactic(auto, unfolding(crate::specs::Productions::phi_rest))]
-    fn phi_rest(&self, alloc: Global, at: usize, result_name: Name) -> Result<(Line, usize), Stop>
-        ensures { Gives (all_of self.now) result (phi_rest result_name (drop at (all_of self.now))) }
-    {
-        let (width, at) = self.width(at)?;
-        let (first, at) = self.incoming(alloc, at, width)?;
-        let (parts, at) = self.phi_parts(alloc, at, width)?;
-        let phi = PhiNode {
-            result: result_name,
-            width,
-            first,
-            parts,
-        };
-        Ok((Line::Phi(phi), at))
-    }
-
     #[tactic(auto, unfolding(crate::specs::Productions::plain_rest))]
     fn plain_rest(&self, alloc: Global, at: usize, result_name: Name) -> Result<(Line, usize), Stop>
         ensures { Gives (all_of self.now) result (plain_rest result_name (drop at (all_of self.now))) }
@@ -205,13 +146,13 @@ impl<'a> Source<'a> {
         Ok((Some(marker), at))
     }
 
-    /// A call of `llvm.assume`.
-    #[tactic(auto, unfolding(crate::specs::Productions::assume_line))]
-    fn assume_line(&self, alloc: Global, at: usize) -> Result<(Line, usize), Stop>
-        ensures { Gives (all_of self.now) result (assume_line (drop at (all_of self.now))) }
+    /// A call without a result.
+    #[tactic(auto, unfolding(crate::specs::Productions::void_line))]
+    fn void_line(&self, alloc: Global, at: usize) -> Result<(Line, usize), Stop>
+        ensures { Gives (all_of self.now) result (void_line (drop at (all_of self.now))) }
     {
         let (marker, at) = self.call_marker(alloc, at)?;
-        let (operation, at) = self.assume(alloc, at, marker)?;
+        let (operation, at) = self.void_call(alloc, at, marker)?;
         let (attached, at) = self.attachments(alloc, at)?;
         let instruction = Instruction {
             result: None,
@@ -237,7 +178,7 @@ impl<'a> Source<'a> {
         ensures { Gives (all_of self.now) result (line phis (drop at (all_of self.now))) }
     {
         if self.starts_call(at) {
-            return self.assume_line(alloc, at);
+            return self.void_line(alloc, at);
         }
         self.defined_line(alloc, at, phis)
     }
@@ -254,19 +195,26 @@ impl<'a> Source<'a> {
         }
     }
 
-    /// The phis and the other instructions of a block.
-    pub fn lines(&self, alloc: Global, from: usize) -> Result<(Items<Line>, usize), Stop>
-        ensures { Gives (all_of self.now) result (lines true (drop from (all_of self.now))) }
+    /// The phis and the other instructions of a block. The lines on which they begin are put last among these numbers.
+    pub fn lines(
+        &self,
+        alloc: Global,
+        numbers: &mut Vec<u32>,
+        from: usize,
+    ) -> Result<(BlockLines, usize), Stop>
+        ensures gives { Gives (all_of self.now) result (block_lines (drop from (all_of self.now))) }
+        ensures numbers { IfOk result (λ p. numbers.new.items ≡ numbers.old.items ++ first_lines (line_lengths p.0) (drop from (line_numbers self.now))) }
     {
-        let mut list = Vec::new(alloc);
+        let mut list = BlockLines::new(alloc);
         let mut at = from;
         let mut phis = true;
         'list: while self.starts_line(at) {
             let (line, next) = self.line(alloc, at, phis)?;
             phis = still_phis(phis, &line);
             list.push(line)?;
+            numbers.push(self.line_number(at))?;
             at = next;
         }
-        Ok((Items(list), at))
+        Ok((list, at))
     }
 }

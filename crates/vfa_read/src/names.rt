@@ -5,7 +5,7 @@ ghost use Rattle.vfa_ir.specs.Names.{bytes_of_name as name_bytes, decoded, is_he
 ghost use Rattle.vfa_ir.specs.TokenLexemes.{written_name as name_written, quoted_name as name_quoted};
 
 use crate::numbers::is_digits;
-use crate::source::{behind_first, between, first, without_last};
+use crate::source::{after_first, between, first, without_last};
 use std::alloc::{AllocError, Global};
 use vfa_ir::{Name, Token, TokenKind};
 
@@ -32,29 +32,29 @@ fn hexadecimal(digit: u8) -> u8
     digit - b'a' + 10
 }
 
-/// The byte that a string begins with, and the rest of the string: two hexadecimal digits behind a backslash stand for
+/// The byte that a string begins with, and the rest of the string: two hexadecimal digits after a backslash stand for
 /// one byte, two backslashes for one.
-fn piece<'a>(byte: u8, behind: &'a [u8]) -> (u8, &'a [u8])
-    ensures piece { decoded (byte ∷ behind.now) ≡ result.0 ∷ decoded result.1.now }
-    ensures shorter { length result.1.now ≤ length behind.now }
+fn piece<'a>(byte: u8, after: &'a [u8]) -> (u8, &'a [u8])
+    ensures piece { decoded (byte ∷ after.now) ≡ result.0 ∷ decoded result.1.now }
+    ensures shorter { length result.1.now ≤ length after.now }
 {
-    let Some((second, rest)) = first(behind) else {
-        return (byte, behind);
+    let Some((second, rest)) = first(after) else {
+        return (byte, after);
     };
     if byte != b'\\' {
-        return (byte, behind);
+        return (byte, after);
     }
     if second == b'\\' {
         return (b'\\', rest);
     }
     let Some((third, last)) = first(rest) else {
-        return (byte, behind);
+        return (byte, after);
     };
     if !is_hexadecimal(second) {
-        return (byte, behind);
+        return (byte, after);
     }
     if !is_hexadecimal(third) {
-        return (byte, behind);
+        return (byte, after);
     }
     (16 * hexadecimal(second) + hexadecimal(third), last)
 }
@@ -65,8 +65,8 @@ fn unescaped(alloc: Global, text: &[u8]) -> Result<Vec<u8>, AllocError>
 {
     let mut bytes = Vec::new(alloc);
     let mut rest = text;
-    'pieces: while let Some((byte, behind)) = first(rest) {
-        let (value, next) = piece(byte, behind);
+    'pieces: while let Some((byte, after)) = first(rest) {
+        let (value, next) = piece(byte, after);
         bytes.push(value)?;
         rest = next;
     }
@@ -90,11 +90,11 @@ fn quoted_name(alloc: Global, text: &[u8]) -> Result<Option<Name>, AllocError>
 pub fn written_name(alloc: Global, text: &[u8]) -> Result<Option<Name>, AllocError>
     ensures { IfOk result (λ o. o ≡ name_written text.now) }
 {
-    let Some((sign, behind)) = first(text) else {
+    let Some((sign, after)) = first(text) else {
         return Ok(None);
     };
     if sign == b'"' {
-        return quoted_name(alloc, without_last(behind));
+        return quoted_name(alloc, without_last(after));
     }
     Ok(Some(Name::of(alloc, text)?))
 }
@@ -103,11 +103,11 @@ pub fn written_name(alloc: Global, text: &[u8]) -> Result<Option<Name>, AllocErr
 fn bytes_of_name(alloc: Global, written: &[u8]) -> Result<Name, AllocError>
     ensures { IfOk result (λ name. name ≡ name_bytes written.now) }
 {
-    let Some((sign, behind)) = first(written) else {
+    let Some((sign, after)) = first(written) else {
         return Name::of(alloc, written);
     };
     if sign == b'"' {
-        return Ok(Name(unescaped(alloc, without_last(behind))?));
+        return Ok(Name(unescaped(alloc, without_last(after))?));
     }
     Name::of(alloc, written)
 }
@@ -118,9 +118,9 @@ fn name_part_of<'a>(bytes: &'a [u8], token: &Token) -> &'a [u8]
 {
     let text = between(bytes, token.start, token.end);
     match token.kind {
-        TokenKind::Local => behind_first(text),
-        TokenKind::Global => behind_first(text),
-        TokenKind::Meta => behind_first(text),
+        TokenKind::Local => after_first(text),
+        TokenKind::Global => after_first(text),
+        TokenKind::Meta => after_first(text),
         TokenKind::Label => without_last(text),
         _ => text,
     }

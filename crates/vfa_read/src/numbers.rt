@@ -31,17 +31,17 @@ pub fn magnitude(text: &[u8]) -> Option<u128>
     Some(value)
 }
 
-/// Whether the text is digits, perhaps behind a `-`, and their number is of the range of the width.
+/// Whether the text is digits, perhaps after a `-`, and their number is of the range of the width.
 pub fn fits_number(text: &[u8], width: u32) -> bool
     requires least { 1 ≤ width }
     requires most { width ≤ 128 }
     ensures { result ≡ number_fits width text.now }
 {
-    let Some((first, behind)) = first(text) else {
+    let Some((first, after)) = first(text) else {
         return false;
     };
     if first == b'-' {
-        let Some(number) = magnitude(behind) else {
+        let Some(number) = magnitude(after) else {
             return false;
         };
         return number <= 1 << (width - 1);
@@ -94,15 +94,15 @@ pub fn is_digits(text: &[u8]) -> bool
     all_digits(text)
 }
 
-/// Whether the text is digits, perhaps behind a `-`.
+/// Whether the text is digits, perhaps after a `-`.
 pub fn is_number(text: &[u8]) -> bool
     ensures { result ≡ are_number text.now }
 {
-    let Some((byte, behind)) = first(text) else {
+    let Some((byte, after)) = first(text) else {
         return false;
     };
     if is_digits(text) {
         return true;
     }
-    byte == b'-' && is_digits(behind)
+    byte == b'-' && is_digits(after)
 }

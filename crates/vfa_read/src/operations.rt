@@ -1,7 +1,7 @@
-//! Readers of operations, behind the word that each begins with.
+//! Readers of operations, after the word that each begins with.
 
 ghost use Rattle.std.specs.Prelude.{◌≡◌, ◌≤◌, drop, IfOk};
-ghost use Rattle.vfa_read.specs.Productions.{operands, typed_operands, compare, select, convert, freeze, pair_type, extract, optional_word, flag_then, is_wrap_flag, wrap_flags, flags, binary};
+ghost use Rattle.vfa_read.specs.Productions.{operands, typed_operands, same_sign, compare, select, cast_flags, converted, convert, freeze, pair_type, extract, optional_word, flag_then, is_wrap_flag, wrap_flags, flags, binary};
 ghost use Rattle.vfa_read.specs.Readers.{Gives, next_passes};
 ghost use Rattle.vfa_read.specs.Seen.{all_of};
 
@@ -48,14 +48,35 @@ impl<'a> Source<'a> {
         Ok(((a, b), at))
     }
 
+    /// Whether `samesign` stands at a place, and the place after it.
+    fn same_sign(&self, at: usize) -> Result<(bool, usize), Stop>
+        ensures { Gives (all_of self.now) result (same_sign (drop at (all_of self.now))) }
+    {
+        if !self.has_word(at, b"samesign") {
+            return Ok((false, at));
+        }
+        let at = self.word(at, b"samesign")?;
+        Ok((true, at))
+    }
+
     #[tactic(auto, unfolding(crate::specs::Productions::compare))]
     pub fn compare(&self, alloc: Global, at: usize) -> Result<(Operation, usize), Stop>
         ensures { Gives (all_of self.now) result (compare (drop at (all_of self.now))) }
     {
+        let (samesign, at) = self.same_sign(at)?;
         let (pred, at) = self.pred(at)?;
         let (width, at) = self.width(at)?;
         let ((a, b), at) = self.operands(alloc, at, width)?;
-        Ok((Operation::Compare { pred, width, a, b }, at))
+        Ok((
+            Operation::Compare {
+                samesign,
+                pred,
+                width,
+                a,
+                b,
+            },
+            at,
+        ))
     }
 
     #[tactic(auto, unfolding(crate::specs::Productions::select))]
@@ -68,17 +89,6 @@ impl<'a> Source<'a> {
         let (width, at) = self.width(at)?;
         let ((a, b), at) = self.typed_operands(alloc, at, width)?;
         Ok((Operation::Select { c, width, a, b }, at))
-    }
-
-    #[tactic(auto, unfolding(crate::specs::Productions::convert))]
-    pub fn convert(&self, alloc: Global, at: usize, cast: Cast) -> Result<(Operation, usize), Stop>
-        ensures { Gives (all_of self.now) result (convert cast (drop at (all_of self.now))) }
-    {
-        let (from, at) = self.width(at)?;
-        let (a, at) = self.value(alloc, at, from)?;
-        let at = self.word(at, b"to")?;
-        let (to, at) = self.width(at)?;
-        Ok((Operation::Convert { cast, from, a, to }, at))
     }
 
     #[tactic(auto, unfolding(crate::specs::Productions::freeze))]
@@ -133,7 +143,7 @@ impl<'a> Source<'a> {
         Ok((Items(words), at))
     }
 
-    /// A flag, and behind it one that may lack.
+    /// A flag, and after it one that may lack.
     fn flag_then(
         &self,
         alloc: Global,
@@ -189,9 +199,8 @@ impl<'a> Source<'a> {
             Bin::Udiv | Bin::Sdiv | Bin::Lshr | Bin::Ashr => {
                 self.optional_word(alloc, at, b"exact")
             }
-            Bin::Urem | Bin::Srem | Bin::And | Bin::Or | Bin::Xor => {
-                Ok((Items(Vec::new(alloc)), at))
-            }
+            Bin::Or => self.optional_word(alloc, at, b"disjoint"),
+            Bin::Urem | Bin::Srem | Bin::And | Bin::Xor => Ok((Items(Vec::new(alloc)), at)),
         }
     }
 
@@ -209,6 +218,47 @@ impl<'a> Source<'a> {
                 width,
                 a,
                 b,
+            },
+            at,
+        ))
+    }
+
+    /// The flags of a conversion.
+    fn cast_flags(&self, alloc: Global, at: usize, cast: Cast) -> Result<(Items<Name>, usize), Stop>
+        ensures { Gives (all_of self.now) result (cast_flags cast (drop at (all_of self.now))) }
+    {
+        match cast {
+            Cast::Zext => self.optional_word(alloc, at, b"nneg"),
+            Cast::Sext => Ok((Items(Vec::new(alloc)), at)),
+            Cast::Trunc => self.wrap_flags(alloc, at),
+        }
+    }
+
+    /// `T V to T`
+    #[tactic(auto, unfolding(crate::specs::Productions::converted))]
+    fn converted(&self, alloc: Global, at: usize) -> Result<((u32, (Written, u32)), usize), Stop>
+        ensures { Gives (all_of self.now) result (converted (drop at (all_of self.now))) }
+    {
+        let (from, at) = self.width(at)?;
+        let (a, at) = self.value(alloc, at, from)?;
+        let at = self.word(at, b"to")?;
+        let (to, at) = self.width(at)?;
+        Ok(((from, (a, to)), at))
+    }
+
+    #[tactic(auto, unfolding(crate::specs::Productions::convert))]
+    pub fn convert(&self, alloc: Global, at: usize, cast: Cast) -> Result<(Operation, usize), Stop>
+        ensures { Gives (all_of self.now) result (convert cast (drop at (all_of self.now))) }
+    {
+        let (flags, at) = self.cast_flags(alloc, at, cast)?;
+        let ((from, (a, to)), at) = self.converted(alloc, at)?;
+        Ok((
+            Operation::Convert {
+                cast,
+                flags,
+                from,
+                a,
+                to,
             },
             at,
         ))

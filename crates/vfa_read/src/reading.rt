@@ -1,6 +1,6 @@
 //! Reading a function.
 
-ghost use Rattle.std.specs.Prelude.{◌≡◌, ◌⊎◌, None, IfOk, IfErr, OnOk};
+ghost use Rattle.std.specs.Prelude.{◌≡◌, ◌⊎◌, None, map, IfOk, IfErr, OnOk};
 ghost use Rattle.vfa_ir.specs.Reads.{IsAccepted, IsReason, too_many as tree_has_too_many};
 ghost use Rattle.vfa_ir.specs.TokenLexemes.{lexemes};
 ghost use Rattle.vfa_ir.specs.declared.functions.Function.{Function};
@@ -8,10 +8,8 @@ ghost use Rattle.vfa_ir.specs.declared.functions.Lines.{Lines};
 ghost use Rattle.vfa_ir.specs.declared.reasons.Outside.{Outside};
 ghost use Rattle.vfa_ir.specs.declared.reasons.Outside.TheVariants.{Memory};
 ghost use Rattle.vfa_read.specs.Resolving.{tree};
-ghost use Rattle.vfa_read.specs.Trees.{IsTree};
+ghost use Rattle.vfa_read.specs.Trees.{HasItsLines, IsTree};
 
-use crate::extents::behind;
-use crate::line_numbers::lines_of;
 use crate::resolution::{function_of, too_many};
 use crate::sentences::{FunctionTree, read_tree};
 use crate::tails::tail_bytes;
@@ -30,6 +28,7 @@ pub struct ReadFunction {
 /// The tree of the tokens, which keeps the limits.
 fn limited_tree(alloc: Global, bytes: &[u8], tokens: &[Token]) -> Result<FunctionTree, Outside>
     ensures tree { IfOk result (λ t. IsTree (lexemes bytes.now tokens.now) t) }
+    ensures lines { IfOk result (λ t. HasItsLines (map (λ t. t.line) tokens.now) t) }
     ensures kept { IfOk result (λ t. tree_has_too_many (tree t.header.parameters t.blocks) ≡ None) }
     ensures refused { IfErr result (λ e. (e ≡ Memory) ⊎ IsReason bytes.now tokens.now e) }
 {
@@ -45,15 +44,15 @@ fn resolved(
     alloc: Global,
     bytes: &[u8],
     tokens: &[Token],
-    written: &FunctionTree,
+    written: FunctionTree,
 ) -> Result<ReadFunction, Outside>
-    requires tree { IsTree (lexemes bytes.now tokens.now) written.now }
-    requires kept { tree_has_too_many (tree written.now.header.parameters written.now.blocks) ≡ None }
+    requires tree { IsTree (lexemes bytes.now tokens.now) written }
+    requires lines { HasItsLines (map (λ t. t.line) tokens.now) written }
+    requires kept { tree_has_too_many (tree written.header.parameters written.blocks) ≡ None }
     ensures reads { IfOk result (λ r. IsAccepted bytes.now tokens.now r.function r.lines) }
     ensures refused { IfErr result (λ e. (e ≡ Memory) ⊎ IsReason bytes.now tokens.now e) }
 {
     let header = &written.header;
-    let blocks = written.blocks.as_slice();
     let function = function_of(
         alloc,
         &header.name,
@@ -61,10 +60,12 @@ fn resolved(
         header.width,
         tail_bytes(bytes, tokens, written.tail_start, written.tail_end),
         header.parameters.as_slice(),
-        blocks,
+        written.blocks.as_slice(),
     )?;
-    let lines = lines_of(alloc, behind(tokens, written.tail_end), 1, blocks)?;
-    Ok(ReadFunction { function, lines })
+    Ok(ReadFunction {
+        function,
+        lines: Lines { of: written.lines },
+    })
 }
 
 /// The function that the tokens are, or why they are none.
@@ -73,7 +74,7 @@ fn read_tokens(alloc: Global, bytes: &[u8], tokens: &[Token]) -> Result<ReadFunc
     ensures refused { IfErr result (λ e. (e ≡ Memory) ⊎ IsReason bytes.now tokens.now e) }
 {
     let tree = limited_tree(alloc, bytes, tokens)?;
-    resolved(alloc, bytes, tokens, &tree)
+    resolved(alloc, bytes, tokens, tree)
 }
 
 /// The function that the bytes, which have these tokens, read as within the limits, and the lines of its instructions,

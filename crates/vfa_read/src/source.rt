@@ -1,8 +1,8 @@
 //! The text of a function with its tokens, seen one token at a time.
 
-ghost use Rattle.std.specs.Prelude.{◌≡◌, ◌+◌, ◌-◌, ℕ, [], ◌∷◌, length, take, drop, slice_index, slice_range, MatchOption};
+ghost use Rattle.std.specs.Prelude.{◌≡◌, ◌+◌, ◌-◌, ℕ, [], ◌∷◌, get_or, length, take, drop, slice_index, slice_range, MatchOption};
 ghost use Rattle.vfa_ir.specs.TokenLexemes.{lexeme_of};
-ghost use Rattle.vfa_read.specs.Seen.{seen_lexeme, all_of};
+ghost use Rattle.vfa_read.specs.Seen.{seen_lexeme, all_of, line_numbers};
 
 use vfa_ir::{Token, TokenKind};
 
@@ -28,7 +28,7 @@ pub enum Seen<'a> {
     Metadata(&'a [u8]),
     /// `#digits`, without the sign.
     Group(&'a [u8]),
-    /// Digits, perhaps behind a `-`.
+    /// Digits, perhaps after a `-`.
     Number(&'a [u8]),
     /// A word.
     Word(&'a [u8]),
@@ -40,7 +40,7 @@ pub enum Seen<'a> {
     Other,
 }
 
-/// The first byte and those behind it.
+/// The first byte and those after it.
 pub fn first(text: &[u8]) -> Option<(u8, &[u8])>
     ensures { MatchOption result (text.now ≡ []) (λ p. text.now ≡ p.0 ∷ p.1.now) }
 {
@@ -60,7 +60,7 @@ pub fn between(bytes: &[u8], start: usize, end: usize) -> &[u8]
     &rest[..count]
 }
 
-pub fn behind_first(text: &[u8]) -> &[u8]
+pub fn after_first(text: &[u8]) -> &[u8]
     ensures { result.now ≡ drop 1 text.now }
 {
     if text.is_empty() {
@@ -88,11 +88,11 @@ fn seen_as(kind: TokenKind, text: &[u8]) -> Seen<'_>
     ensures { seen_lexeme result ≡ lexeme_of kind text.now }
 {
     match kind {
-        TokenKind::Local => Seen::Local(behind_first(text)),
-        TokenKind::Global => Seen::Global(behind_first(text)),
+        TokenKind::Local => Seen::Local(after_first(text)),
+        TokenKind::Global => Seen::Global(after_first(text)),
         TokenKind::Label => Seen::Label(without_last(text)),
-        TokenKind::Meta => Seen::Metadata(behind_first(text)),
-        TokenKind::Group => Seen::Group(behind_first(text)),
+        TokenKind::Meta => Seen::Metadata(after_first(text)),
+        TokenKind::Group => Seen::Group(after_first(text)),
         TokenKind::Number => Seen::Number(text),
         TokenKind::Word => Seen::Word(text),
         TokenKind::String => Seen::String,
@@ -102,7 +102,17 @@ fn seen_as(kind: TokenKind, text: &[u8]) -> Seen<'_>
 }
 
 impl<'a> Source<'a> {
-    /// What stands at a place; none behind the last token.
+    /// The line of the token of a place, or 0 where none stands there.
+    pub fn line_number(&self, at: usize) -> u32
+        ensures { result ≡ get_or (line_numbers self.now) at 0 }
+    {
+        match self.tokens.get(at) {
+            Some(token) => token.line,
+            None => 0,
+        }
+    }
+
+    /// What stands at a place; none after the last token.
     pub fn seen(&self, at: usize) -> Option<Seen<'a>>
         ensures { MatchOption result (drop at (all_of self.now) ≡ [])
             (λ s. drop at (all_of self.now) ≡ seen_lexeme s ∷ drop (at + 1) (all_of self.now)) }

@@ -6,9 +6,8 @@ ghost use Rattle.vfa_ir.specs.Grammar.{may_follow_parameters};
 ghost use Rattle.vfa_read.specs.Headers.{tail_from};
 ghost use Rattle.vfa_read.specs.Readers.{next_passes};
 ghost use Rattle.vfa_read.specs.Seen.{all_of, seen_lexeme};
-ghost use Rattle.vfa_read.specs.Trees.{Passes, open_behind};
+ghost use Rattle.vfa_read.specs.Trees.{Passes, open_after};
 
-use crate::extents::behind;
 use crate::source::{Seen, Source, between};
 use crate::stops::Stop;
 use vfa_ir::Token;
@@ -26,11 +25,11 @@ fn may_follow(seen: Seen<'_>) -> bool
     }
 }
 
-/// How many parentheses are open behind a token, where so many are open before it; none where it closes one too many.
+/// How many parentheses are open after a token, where so many are open before it; none where it closes one too many.
 #[tactic(auto, using(crate::proofs::Starts::local_opens, crate::proofs::Starts::global_opens, crate::proofs::Starts::label_opens))]
-fn open_behind(seen: Seen<'_>, depth: usize) -> Option<usize>
+fn open_after(seen: Seen<'_>, depth: usize) -> Option<usize>
     requires { depth < 18446744073709551615 }
-    ensures { result ≡ open_behind depth (seen_lexeme seen.entry) }
+    ensures { result ≡ open_after depth (seen_lexeme seen.entry) }
 {
     let Seen::Mark(mark) = seen else {
         return Some(depth);
@@ -58,17 +57,17 @@ impl<'a> Source<'a> {
         None
     }
 
-    /// The place behind what stands between the parameters and the body.
+    /// The place after what stands between the parameters and the body.
     pub fn tail(&self, from: usize) -> Result<usize, Stop>
         ensures { Passes from (all_of self.now) result (tail_from 0 (drop from (all_of self.now))) }
     {
         let mut at = from;
         let mut depth = 0;
         'tail: while let Some(seen) = self.tail_token(at) {
-            let Some(behind) = open_behind(seen, depth) else {
+            let Some(after) = open_after(seen, depth) else {
                 return Err(Stop::At(at));
             };
-            depth = behind;
+            depth = after;
             at += 1;
         }
         if depth == 0 {
@@ -82,7 +81,7 @@ impl<'a> Source<'a> {
 fn tokens_between(tokens: &[Token], start: usize, end: usize) -> &[Token]
     ensures { result.now ≡ take (end - start) (drop start tokens.now) }
 {
-    let rest = behind(tokens, start);
+    let rest = &tokens[start.min(tokens.len())..];
     let count = end.saturating_sub(start).min(rest.len());
     &rest[..count]
 }

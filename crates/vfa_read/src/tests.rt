@@ -48,6 +48,17 @@ fn stops_at_once(alloc: Global, lines: &[u8]) -> bool {
     stops_on(read_lines(alloc, lines), 2)
 }
 
+/// Whether these tokens on the first line may stand there, and the first on the next line may not.
+fn stops_after(alloc: Global, good: &[u8], bad: &[u8]) -> bool {
+    let Ok(mut lines) = Vec::from_slice(alloc, good) else {
+        return false;
+    };
+    if lines.push(b'\n').is_err() || lines.extend_from_slice(bad).is_err() {
+        return false;
+    }
+    stops_on(read_lines(alloc, lines.as_slice()), 3)
+}
+
 fn repeats(alloc: Global, lines: &[u8], name: &[u8]) -> bool {
     match read_lines(alloc, lines) {
         Err(Outside::Duplicate(found)) => found.bytes() == name,
@@ -134,6 +145,39 @@ fn calls_read(rt: HostRuntime) {
             b"call void @llvm.assume(i1 %c)\ntail call void @llvm.assume(i1 true) #3"
         )
     );
+}
+
+#[test]
+fn newer_flags_read(rt: HostRuntime) {
+    assert!(rt;
+        reads_lines(
+            rt.alloc(),
+            b"%x = or disjoint i8 %a, 1\n%p = icmp samesign eq i8 %a, 3\n%z = zext nneg i8 %a to i9\n%t = trunc nsw nuw i9 %z to i8\n%u = trunc nuw i9 %z to i8"
+        )
+    );
+    assert!(rt; stops_after(rt.alloc(), b"%x = or", b"exact i8 %a, 1"));
+    assert!(rt; stops_after(rt.alloc(), b"%x = icmp samesign", b"samesign eq i8 %a, 1"));
+    assert!(rt; stops_after(rt.alloc(), b"%x = zext", b"uw i8 %a to i9"));
+    assert!(rt; stops_after(rt.alloc(), b"%x = zext", b"nuw i8 %a to i9"));
+    assert!(rt; stops_after(rt.alloc(), b"%x = trunc", b"nneg i8 %a to i7"));
+    assert!(rt; stops_after(rt.alloc(), b"%x = sext", b"nneg i8 %a to i9"));
+}
+
+#[test]
+fn calls_of_functions_read(rt: HostRuntime) {
+    assert!(rt;
+        reads_lines(
+            rt.alloc(),
+            b"%r = call fastcc fastcc i8 @g()\ncall void @g() #0, !dbg !3\n%s = tail call noundef i8 @\"g h\"(i8 noundef signext %r, i1 true)\ncall void @g(i8 poison)"
+        )
+    );
+    assert!(rt; stops_after(rt.alloc(), b"%r = call i8 @g(i8 %a,", b")"));
+    assert!(rt; stops_after(rt.alloc(), b"%r = call i8", b"@llvm.foo(i8 %a)"));
+    assert!(rt; stops_after(rt.alloc(), b"%r = call noundef i8", b"@llvm.umax.i8(i8 %a, i8 %a)"));
+    assert!(rt; stops_after(rt.alloc(), b"%r = call", b"void @g()"));
+    assert!(rt; stops_after(rt.alloc(), b"call", b"i8 @g()"));
+    assert!(rt; stops_after(rt.alloc(), b"%r = call i8 @g(i8", b"align 4 %a)"));
+    assert!(rt; stops_after(rt.alloc(), b"%r = call i8 @g(i8", b"range(i8 0, 2) %a)"));
 }
 
 #[test]

@@ -12,7 +12,7 @@ use super::definitions::symbols_of;
 use super::values::{copied_names, params_of, values_of};
 use std::alloc::Global;
 use vfa_ir::syntax::{BasicBlock, Parameter};
-use vfa_ir::{Function, Name, Outside};
+use vfa_ir::{Function, Items, Name, Outside};
 
 /// The function of a tree that keeps the limits, with the bytes of its tail; or the name that is defined a second time
 /// first; or, where each is defined once, the name that is used first without its definition.
@@ -43,7 +43,8 @@ pub fn function_of(
     let table = symbols_of(alloc, parameters, blocks)?;
     let values = values_of(alloc, parameters, blocks)?;
     let params = params_of(alloc, parameters)?;
-    let resolved = table.basic_blocks(alloc, blocks)?;
+    let mut calls = Vec::new(alloc);
+    let resolved = table.basic_blocks(alloc, &mut calls, blocks)?;
     let lead = copied_names(alloc, lead)?;
     let name = name.copied(alloc)?;
     let tail = Name::of(alloc, tail)?;
@@ -55,5 +56,6 @@ pub fn function_of(
         tail,
         values,
         blocks: resolved,
+        calls: Items(calls),
     })
 }

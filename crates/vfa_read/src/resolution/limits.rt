@@ -1,13 +1,13 @@
 //! The limits of the profile.
 
-ghost use Rattle.std.specs.Prelude.{◌≡◌, ◌<◌, ◌+◌, length, filter_map, MatchOption, nat_lt, is_some};
+ghost use Rattle.std.specs.Prelude.{◌≡◌, ◌<◌, ◌+◌, length, filter_map, MatchOption, nat_lt};
 ghost use Rattle.std.specs.List.{list_any};
-ghost use Rattle.vfa_ir.specs.DefinedNames.{block_results, line_result, value_names};
+ghost use Rattle.vfa_ir.specs.DefinedNames.{block_results, value_names};
 ghost use Rattle.vfa_ir.specs.Reads.{cases_of, too_many as tree_has_too_many};
 ghost use Rattle.vfa_read.specs.Resolving.{tree};
 
 use vfa_ir::Kind;
-use vfa_ir::syntax::{BasicBlock, Line, Parameter, Transfer};
+use vfa_ir::syntax::{BasicBlock, Instruction, Parameter, TerminatorKind};
 
 const MOST_NAMES: usize = 4096;
 
@@ -15,33 +15,25 @@ const MOST_BLOCKS: usize = 1024;
 
 const MOST_CASES: usize = 1024;
 
-fn has_result(line: &Line) -> bool
-    ensures { result ≡ is_some (line_result line.now) }
-{
-    match line {
-        Line::Phi(_) => true,
-        Line::Plain(instruction) => instruction.result.is_some(),
-    }
-}
-
-/// How many lines have a result.
-fn result_count(lines: &[Line]) -> usize
-    ensures counts { result ≡ length (filter_map line_result lines.now) }
+/// How many instructions have a result.
+fn result_count(instructions: &[Instruction]) -> usize
+    ensures { result ≡ length (filter_map (λ i. i.result) instructions.now) }
 {
     let mut count = 0;
-    'lines: for line in lines {
-        if has_result(line) {
+    'each: for instruction in instructions {
+        if instruction.result.is_some() {
             count += 1;
         }
     }
     count
 }
 
-/// How many names may still come behind those of a block; none where the block has too many.
-fn room_behind(room: usize, block: &BasicBlock) -> Option<usize>
+/// How many names may still come after those of a block; none where the block has too many.
+fn room_after(room: usize, block: &BasicBlock) -> Option<usize>
     ensures { MatchOption result (room < length (block_results block.now)) (λ left. left + length (block_results block.now) ≡ room) }
 {
-    room.checked_sub(result_count(block.lines.as_slice()))
+    let room = room.checked_sub(block.phis.as_slice().len())?;
+    room.checked_sub(result_count(block.instructions.as_slice()))
 }
 
 /// Whether there are too many parameters and results.
@@ -53,7 +45,7 @@ fn passes_names(parameters: &[Parameter], blocks: &[BasicBlock]) -> bool
     }
     let mut room = MOST_NAMES - parameters.len();
     'count: for block in blocks {
-        match room_behind(room, block) {
+        match room_after(room, block) {
             Some(left) => room = left,
             None => return true,
         }
@@ -62,17 +54,17 @@ fn passes_names(parameters: &[Parameter], blocks: &[BasicBlock]) -> bool
 }
 
 fn has_too_many_cases(block: &BasicBlock) -> bool
-    ensures { result ≡ nat_lt 1024 (cases_of block.now.terminator.transfer) }
+    ensures { result ≡ nat_lt 1024 (cases_of block.now.terminator.kind) }
 {
-    match &block.terminator.transfer {
-        Transfer::Switch { cases, .. } => cases.as_slice().len() > MOST_CASES,
+    match &block.terminator.kind {
+        TerminatorKind::Switch { cases, .. } => cases.as_slice().len() > MOST_CASES,
         _ => false,
     }
 }
 
 /// Whether some switch has too many cases.
 fn passes_cases(blocks: &[BasicBlock]) -> bool
-    ensures { result ≡ list_any (λ b. nat_lt 1024 (cases_of b.terminator.transfer)) blocks.now }
+    ensures { result ≡ list_any (λ b. nat_lt 1024 (cases_of b.terminator.kind)) blocks.now }
 {
     blocks.iter().any(|block| has_too_many_cases(block))
 }

@@ -1,15 +1,15 @@
 //! Phis, with ids in place of names.
 
-ghost use Rattle.std.specs.Prelude.{◌≡◌, [], ◌∷◌, ◌++◌, map, flat_map, filter_map, All, None, IfOk, IfErr};
-ghost use Rattle.vfa_ir.specs.DefinedNames.{part_entry, phi_uses};
+ghost use Rattle.std.specs.Prelude.{map, flat_map, All};
+ghost use Rattle.vfa_ir.specs.DefinedNames.{phi_uses};
 ghost use Rattle.vfa_ir.specs.Grammar.{FitsPhi, FitsValue, IsWidth};
 ghost use Rattle.vfa_ir.specs.Resolution.{phi_of};
-ghost use Rattle.vfa_read.specs.Resolving.{entry_of, entry_uses, FitsPart, IsUnknown, Resolves, unknown_in};
+ghost use Rattle.vfa_read.specs.Resolving.{entry_of, entry_uses, Resolves};
 
 use super::table::SymbolTable;
 use smallvec::SmallVec;
 use std::alloc::Global;
-use vfa_ir::syntax::{Incoming, PhiNode, PhiPart};
+use vfa_ir::syntax::{Incoming, PhiNode};
 use vfa_ir::{BlockId, Few, Operand, Outside, Phi};
 
 impl SymbolTable {
@@ -28,60 +28,22 @@ impl SymbolTable {
         Ok((value, block))
     }
 
-    fn push_entry(
+    fn entries(
         &self,
         alloc: Global,
-        list: &mut SmallVec<(Operand, BlockId), 4>,
-        incoming: &Incoming,
+        entries: &[Incoming],
         width: u32,
-    ) -> Result<(), Outside>
+    ) -> Result<Few<(Operand, BlockId)>, Outside>
         requires width { IsWidth width }
-        requires fits { FitsValue width incoming.now.value }
-        ensures known { IfOk result (λ _. unknown_in self.now (entry_uses incoming.now) ≡ None) }
-        ensures pushed { IfOk result (λ _. list.new.items ≡ list.old.items ++ entry_of self.now width incoming.now ∷ []) }
-        ensures unknown { IfErr result (IsUnknown (unknown_in self.now (entry_uses incoming.now))) }
+        requires fits { All (λ i. FitsValue width i.value) entries.now }
+        ensures { Resolves self.now (flat_map entry_uses entries.now) (map (entry_of self.now width) entries.now) result }
     {
-        let item = self.entry(alloc, incoming, width)?;
-        list.push(item)?;
-        Ok(())
-    }
-
-    fn push_part(
-        &self,
-        alloc: Global,
-        list: &mut SmallVec<(Operand, BlockId), 4>,
-        part: &PhiPart,
-        width: u32,
-    ) -> Result<(), Outside>
-        requires width { IsWidth width }
-        requires fits { FitsPart width part.now }
-        ensures known { IfOk result (λ _. unknown_in self.now (flat_map entry_uses (filter_map part_entry (part.now ∷ []))) ≡ None) }
-        ensures pushed { IfOk result (λ _. list.new.items ≡ list.old.items ++ map (entry_of self.now width) (filter_map part_entry (part.now ∷ []))) }
-        ensures unknown { IfErr result (IsUnknown (unknown_in self.now (flat_map entry_uses (filter_map part_entry (part.now ∷ []))))) }
-    {
-        match part {
-            PhiPart::Entry(incoming) => self.push_entry(alloc, list, incoming, width),
-            PhiPart::Attached(_) => Ok(()),
+        let mut list: SmallVec<(Operand, BlockId), 4> = SmallVec::new(alloc);
+        'each: for incoming in entries {
+            let item = self.entry(alloc, incoming, width)?;
+            list.push(item)?;
         }
-    }
-
-    fn push_parts(
-        &self,
-        alloc: Global,
-        list: &mut SmallVec<(Operand, BlockId), 4>,
-        parts: &[PhiPart],
-        width: u32,
-    ) -> Result<(), Outside>
-        requires width { IsWidth width }
-        requires fits { All (FitsPart width) parts.now }
-        ensures known { IfOk result (λ _. unknown_in self.now (flat_map entry_uses (filter_map part_entry parts.now)) ≡ None) }
-        ensures pushed { IfOk result (λ _. list.new.items ≡ list.old.items ++ map (entry_of self.now width) (filter_map part_entry parts.now)) }
-        ensures unknown { IfErr result (IsUnknown (unknown_in self.now (flat_map entry_uses (filter_map part_entry parts.now)))) }
-    {
-        'each: for part in parts {
-            self.push_part(alloc, list, part, width)?;
-        }
-        Ok(())
+        Ok(Few(list))
     }
 
     /// The phi of ids.
@@ -89,13 +51,11 @@ impl SymbolTable {
         requires { FitsPhi phi.now }
         ensures { Resolves self.now (phi_uses phi.now) (phi_of self.now phi.now) result }
     {
-        let mut list: SmallVec<(Operand, BlockId), 4> = SmallVec::new(alloc);
-        self.push_entry(alloc, &mut list, &phi.first, phi.width)?;
-        self.push_parts(alloc, &mut list, phi.parts.as_slice(), phi.width)?;
+        let entries = self.entries(alloc, phi.entries.as_slice(), phi.width)?;
         Ok(Phi {
             result: self.defined_value(&phi.result),
             width: phi.width,
-            entries: Few(list),
+            entries,
         })
     }
 }

@@ -1,7 +1,7 @@
 //! The values and blocks that a function defines.
 
-ghost use Rattle.std.specs.Prelude.{◌≡◌, ◌≤◌, ◌<◌, ◌+◌, [], ◌∷◌, length, filter_map, false, unwrap_or, decimal, if◌then◌else◌, IfOk, IfErr};
-ghost use Rattle.vfa_ir.specs.DefinedNames.{block_results, line_result, parameter_names, is_numbered as parameter_is_numbered};
+ghost use Rattle.std.specs.Prelude.{◌≡◌, ◌≤◌, ◌<◌, ◌+◌, [], ◌∷◌, length, filter_map, map, false, unwrap_or, decimal, if◌then◌else◌, IfOk, IfErr};
+ghost use Rattle.vfa_ir.specs.DefinedNames.{block_results, parameter_names, is_numbered as parameter_is_numbered};
 ghost use Rattle.vfa_ir.specs.DefinedNames.Use.{of_value, of_block};
 ghost use Rattle.vfa_ir.specs.Resolution.{Scope, value_id, block_id};
 ghost use Rattle.vfa_ir.specs.Words.{is_among};
@@ -11,13 +11,15 @@ use super::symbols::Symbols;
 use crate::numbers::is_digits;
 use std::alloc::{AllocError, Global};
 use std::marker::Model;
-use vfa_ir::syntax::{BasicBlock, Instruction, Line, Parameter};
-use vfa_ir::{BlockId, Name, Outside, ValueId};
+use vfa_ir::syntax::{BasicBlock, Instruction, Parameter, PhiNode};
+use vfa_ir::{BlockId, Name, Outside, ValueId, push_decimal};
 
 fn digits(alloc: Global, n: usize) -> Result<Name, AllocError>
     ensures { IfOk result (λ name. name ≡ decimal n) }
 {
-    Ok(Name(format!(in alloc; "{n}")?.into_bytes()))
+    let mut text = Vec::new(alloc);
+    push_decimal(alloc, &mut text, n as u128)?;
+    Ok(Name(text))
 }
 
 fn block_label(alloc: Global, numbered: usize, block: &BasicBlock) -> Result<Name, AllocError>
@@ -155,24 +157,36 @@ impl SymbolTable {
         }
     }
 
-    fn define_line(&mut self, alloc: Global, line: &Line) -> Result<(), Outside>
-        requires { length self.old.values + length (filter_map line_result (line.now ∷ [])) ≤ 4096 }
-        ensures ok { IfOk result (λ _. Left self.old (only_values (filter_map line_result (line.now ∷ []))) self.new no_names) }
-        ensures err { IfErr result (λ e. IsRepeated self.old (filter_map line_result (line.now ∷ [])) e) }
+    fn define_phi(&mut self, alloc: Global, phi: &PhiNode) -> Result<(), Outside>
+        requires { length self.old.values + length (map (λ p. p.result) (phi.now ∷ [])) ≤ 4096 }
+        ensures ok { IfOk result (λ _. Left self.old (only_values (map (λ p. p.result) (phi.now ∷ []))) self.new no_names) }
+        ensures err { IfErr result (λ e. IsRepeated self.old (map (λ p. p.result) (phi.now ∷ [])) e) }
     {
-        match line {
-            Line::Phi(phi) => self.define_value(alloc, phi.result.bytes()),
-            Line::Plain(instruction) => self.define_instruction(alloc, instruction),
-        }
+        self.define_value(alloc, phi.result.bytes())
     }
 
-    fn define_lines(&mut self, alloc: Global, lines: &[Line]) -> Result<(), Outside>
-        requires { length self.old.values + length (filter_map line_result lines.now) ≤ 4096 }
-        ensures ok { IfOk result (λ _. Left self.old (only_values (filter_map line_result lines.now)) self.new no_names) }
-        ensures err { IfErr result (λ e. IsRepeated self.old (filter_map line_result lines.now) e) }
+    fn define_phis(&mut self, alloc: Global, phis: &[PhiNode]) -> Result<(), Outside>
+        requires { length self.old.values + length (map (λ p. p.result) phis.now) ≤ 4096 }
+        ensures ok { IfOk result (λ _. Left self.old (only_values (map (λ p. p.result) phis.now)) self.new no_names) }
+        ensures err { IfErr result (λ e. IsRepeated self.old (map (λ p. p.result) phis.now) e) }
     {
-        'lines: for line in lines {
-            self.define_line(alloc, line)?;
+        'each: for phi in phis {
+            self.define_phi(alloc, phi)?;
+        }
+        Ok(())
+    }
+
+    fn define_instructions(
+        &mut self,
+        alloc: Global,
+        instructions: &[Instruction],
+    ) -> Result<(), Outside>
+        requires { length self.old.values + length (filter_map (λ i. i.result) instructions.now) ≤ 4096 }
+        ensures ok { IfOk result (λ _. Left self.old (only_values (filter_map (λ i. i.result) instructions.now)) self.new no_names) }
+        ensures err { IfErr result (λ e. IsRepeated self.old (filter_map (λ i. i.result) instructions.now) e) }
+    {
+        'each: for instruction in instructions {
+            self.define_instruction(alloc, instruction)?;
         }
         Ok(())
     }
@@ -182,7 +196,8 @@ impl SymbolTable {
         ensures ok { IfOk result (λ _. Left self.old (only_values (block_results block.now)) self.new no_names) }
         ensures err { IfErr result (λ e. IsRepeated self.old (block_results block.now) e) }
     {
-        self.define_lines(alloc, block.lines.as_slice())
+        self.define_phis(alloc, block.phis.as_slice())?;
+        self.define_instructions(alloc, block.instructions.as_slice())
     }
 
     /// Defines a block and its results, where so many parameters are numbered.

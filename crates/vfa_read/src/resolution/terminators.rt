@@ -1,9 +1,9 @@
 //! Terminators, with ids in place of names.
 
 ghost use Rattle.std.specs.Prelude.{[], ◌∷◌, map, All};
-ghost use Rattle.vfa_ir.specs.DefinedNames.{transfer_uses};
+ghost use Rattle.vfa_ir.specs.DefinedNames.{terminator_uses};
 ghost use Rattle.vfa_ir.specs.DefinedNames.Use.{of_block};
-ghost use Rattle.vfa_ir.specs.Grammar.{FitsLiteral, FitsTransfer, IsWidth};
+ghost use Rattle.vfa_ir.specs.Grammar.{FitsLiteral, FitsTerminatorKind, IsWidth};
 ghost use Rattle.vfa_ir.specs.Resolution.{block_id, literal_bits as bits_of_literal, term_of};
 ghost use Rattle.vfa_read.specs.Resolving.{Resolves};
 
@@ -11,7 +11,7 @@ use super::literals::literal_bits;
 use super::table::SymbolTable;
 use smallvec::SmallVec;
 use std::alloc::Global;
-use vfa_ir::syntax::{SwitchCase, Transfer};
+use vfa_ir::syntax::{SwitchCase, TerminatorKind};
 use vfa_ir::{BlockId, Few, Outside, Term};
 
 impl SymbolTable {
@@ -44,23 +44,23 @@ impl SymbolTable {
     }
 
     /// The terminator of ids.
-    pub fn terminator(&self, alloc: Global, transfer: &Transfer) -> Result<Term, Outside>
-        requires { FitsTransfer transfer.now }
-        ensures { Resolves self.now (transfer_uses transfer.now) (term_of self.now transfer.now) result }
+    pub fn terminator(&self, alloc: Global, kind: &TerminatorKind) -> Result<Term, Outside>
+        requires { FitsTerminatorKind kind.now }
+        ensures { Resolves self.now (terminator_uses kind.now) (term_of self.now kind.now) result }
     {
-        match transfer {
-            Transfer::Return { width, a } => {
+        match kind {
+            TerminatorKind::Return { width, a } => {
                 let a = self.operand(alloc, a, *width)?;
                 Ok(Term::Ret { width: *width, a })
             }
-            Transfer::Always(to) => Ok(Term::Br(self.block(alloc, to)?)),
-            Transfer::Condition { c, yes, no } => {
+            TerminatorKind::Always(to) => Ok(Term::Br(self.block(alloc, to)?)),
+            TerminatorKind::Condition { c, yes, no } => {
                 let c = self.operand(alloc, c, 1)?;
                 let yes = self.block(alloc, yes)?;
                 let no = self.block(alloc, no)?;
                 Ok(Term::CondBr { c, yes, no })
             }
-            Transfer::Switch {
+            TerminatorKind::Switch {
                 width,
                 on,
                 other,
@@ -76,7 +76,7 @@ impl SymbolTable {
                     cases,
                 })
             }
-            Transfer::Unreachable => Ok(Term::Unreachable),
+            TerminatorKind::Unreachable => Ok(Term::Unreachable),
         }
     }
 }

@@ -2,12 +2,11 @@
 
 ghost use Rattle.std.specs.Prelude.{◌≡◌, [], ◌∷◌, ◌++◌, ◌≤◌, None, Some, map, flat_map, filter_map, length, IfOk};
 ghost use Rattle.vfa_ir.specs.DefinedNames.{kept_name as name_kept};
-ghost use Rattle.vfa_ir.specs.Resolution.{block_values, line_value, operation_type as type_of_operation, parameter_value, params_from, value_of};
-ghost use Rattle.vfa_ir.specs.declared.syntax.Line.TheVariants.{Plain};
+ghost use Rattle.vfa_ir.specs.Resolution.{block_values, instruction_value, operation_type as type_of_operation, parameter_value, params_from, phi_value, value_of};
 
 use crate::numbers::is_digits;
 use std::alloc::{AllocError, Global};
-use vfa_ir::syntax::{BasicBlock, Instruction, Line, Operation, Parameter};
+use vfa_ir::syntax::{BasicBlock, Instruction, Operation, Parameter, PhiNode};
 use vfa_ir::{Items, Name, Param, Ty, Value, ValueId};
 
 /// The name that is kept: one of digits alone is none.
@@ -44,6 +43,7 @@ fn operation_type(operation: &Operation) -> Ty
         Operation::One { width, .. } => Ty::Int(*width),
         Operation::Over { width, .. } => Ty::Pair(*width),
         Operation::Assume { .. } => Ty::Int(1),
+        Operation::Call { width, .. } => Ty::Int(width.unwrap_or(1)),
     }
 }
 
@@ -72,12 +72,21 @@ fn push_value(values: &mut Vec<Value>, alloc: Global, name: &Name, ty: Ty) -> Re
     Ok(())
 }
 
+fn push_phis(values: &mut Vec<Value>, alloc: Global, phis: &[PhiNode]) -> Result<(), AllocError>
+    ensures { IfOk result (λ _. values.new.items ≡ values.old.items ++ map phi_value phis.now) }
+{
+    'each: for phi in phis {
+        push_value(values, alloc, &phi.result, Ty::Int(phi.width))?;
+    }
+    Ok(())
+}
+
 fn push_result(
     values: &mut Vec<Value>,
     alloc: Global,
     instruction: &Instruction,
 ) -> Result<(), AllocError>
-    ensures { IfOk result (λ _. values.new.items ≡ values.old.items ++ filter_map line_value (Plain instruction.now ∷ [])) }
+    ensures { IfOk result (λ _. values.new.items ≡ values.old.items ++ filter_map instruction_value (instruction.now ∷ [])) }
 {
     match &instruction.result {
         Some(name) => push_value(values, alloc, name, operation_type(&instruction.operation)),
@@ -85,20 +94,15 @@ fn push_result(
     }
 }
 
-fn push_line(values: &mut Vec<Value>, alloc: Global, line: &Line) -> Result<(), AllocError>
-    ensures { IfOk result (λ _. values.new.items ≡ values.old.items ++ filter_map line_value (line.now ∷ [])) }
+fn push_results(
+    values: &mut Vec<Value>,
+    alloc: Global,
+    instructions: &[Instruction],
+) -> Result<(), AllocError>
+    ensures { IfOk result (λ _. values.new.items ≡ values.old.items ++ filter_map instruction_value instructions.now) }
 {
-    match line {
-        Line::Phi(phi) => push_value(values, alloc, &phi.result, Ty::Int(phi.width)),
-        Line::Plain(instruction) => push_result(values, alloc, instruction),
-    }
-}
-
-fn push_lines(values: &mut Vec<Value>, alloc: Global, lines: &[Line]) -> Result<(), AllocError>
-    ensures { IfOk result (λ _. values.new.items ≡ values.old.items ++ filter_map line_value lines.now) }
-{
-    'each: for line in lines {
-        push_line(values, alloc, line)?;
+    'each: for instruction in instructions {
+        push_result(values, alloc, instruction)?;
     }
     Ok(())
 }
@@ -106,7 +110,8 @@ fn push_lines(values: &mut Vec<Value>, alloc: Global, lines: &[Line]) -> Result<
 fn push_block(values: &mut Vec<Value>, alloc: Global, block: &BasicBlock) -> Result<(), AllocError>
     ensures { IfOk result (λ _. values.new.items ≡ values.old.items ++ block_values block.now) }
 {
-    push_lines(values, alloc, block.lines.as_slice())
+    push_phis(values, alloc, block.phis.as_slice())?;
+    push_results(values, alloc, block.instructions.as_slice())
 }
 
 /// All values in text order, with their names and types.

@@ -5,13 +5,13 @@ use Rattle.vfa_read.proofs.numbers.fits_number.Goals as goal
 
 pub returns-in_default-magnitude : goal.returns-in_default-magnitude
 returns-in_default-magnitude c =
-    let behind = c.in-Some.behind.now in
-    sym (ap (fits_number c.args.width) (c.in-Some.ensures ∙ ap (λ z. z ∷ behind) c.if-first-eq45.true)
-    ∙ minus_no_number c.args.width behind c.requires.most c.in_default-magnitude.ensures)
+    let after = c.in-Some.after.now in
+    sym (ap (fits_number c.args.width) (c.in-Some.ensures ∙ ap (λ z. z ∷ after) c.if-first-eq45.true)
+    ∙ minus_no_number c.args.width after c.requires.most c.in_default-magnitude.ensures)
 
 pub returns-in_default-magnitude-2 : goal.returns-in_default-magnitude-2
 returns-in_default-magnitude-2 c =
-    let behind = c.in-Some.behind.now in
+    let after = c.in-Some.after.now in
     let text_is = c.in-Some.ensures in
     sym (ap (fits_number c.args.width) text_is
-    ∙ plain_no_number c.args.width c.in-Some.first behind (ne_eqb c.in-Some.first 45 c.if-first-eq45.false) c.requires.most (subst NoNumber text_is c.in_default-magnitude-2.ensures))
+    ∙ plain_no_number c.args.width c.in-Some.first after (ne_eqb c.in-Some.first 45 c.if-first-eq45.false) c.requires.most (subst NoNumber text_is c.in_default-magnitude-2.ensures))

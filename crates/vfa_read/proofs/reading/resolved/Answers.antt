@@ -12,14 +12,14 @@ returns-in_err-function-clause-refused c =
     let tokens = c.args.tokens.now in
     let e = c.in_err-function.field-0.0 in
     if_error (λ e. (e ≡ Memory) ⊎ IsReason text tokens e) e c.from_residual.result c.from_residual.ensures.1
-    (refused_parts text tokens c.args.written.now c.requires.tree c.requires.kept e c.as_slice-2.result.now c.as_slice-blocks.result.now c.as_slice-2.ensures c.as_slice-blocks.ensures c.in_err-function.ensures.refused)
+    (refused_parts text tokens c.args.written c.requires.tree c.requires.kept c.requires.lines e c.as_slice-2.result.now c.as_slice-3.result.now c.as_slice-2.ensures c.as_slice-3.ensures c.in_err-function.ensures.refused)
 
 pub returns-clause-reads : goal.returns-clause-reads
 returns-clause-reads c =
     let text = c.args.bytes.now in
     let tokens = c.args.tokens.now in
-    let t = c.args.written.now in
-    accepted_parts text tokens t c.requires.tree c.requires.kept c.tail_bytes.result.now c.in_ok-function.function c.in_ok-lines.lines
-    c.as_slice.result.now c.as_slice-2.result.now c.as_slice-blocks.result.now c.behind.result.now
-    c.as_slice.ensures c.as_slice-2.ensures c.as_slice-blocks.ensures c.behind.ensures c.tail_bytes.ensures
-    c.in_ok-function.ensures.distinct c.in_ok-function.ensures.known (c.in_ok-function.ensures.function (between t.tail_start t.tail_end (lexemes text tokens))) c.in_ok-lines.ensures
+    let t = c.args.written in
+    accepted_parts text tokens t c.requires.tree c.requires.kept c.requires.lines c.tail_bytes.result.now c.in_ok-function.function
+    c.as_slice.result.now c.as_slice-2.result.now c.as_slice-3.result.now
+    c.as_slice.ensures c.as_slice-2.ensures c.as_slice-3.ensures c.tail_bytes.ensures
+    c.in_ok-function.ensures.distinct c.in_ok-function.ensures.known (c.in_ok-function.ensures.function (between t.tail_start t.tail_end (lexemes text tokens)))

@@ -1,36 +1,4 @@
-use Rattle.std.proofs.Common.{drop, sym, ◌∙◌, ap}
-use Rattle.std.proofs.Common.{codes, refl}
-use Rattle.vfa_ir.specs.Words.{lead_words}
-use Rattle.vfa_read.specs.Headers.{word_among, words_among}
-use Rattle.vfa_read.specs.Readers.{one}
-use Rattle.vfa_read.specs.Seen.{all_of}
-use Rattle.vfa_read.proofs.HeaderReaders.{words_done, words_item, words_bad, word_shorter}
-use Rattle.vfa_read.proofs.Loops.{front_done, front_item, front_bad, with_front, stops_through, gives_error}
 use Rattle.vfa_read.proofs.source.Source.lead_words.Goals as goal
 
-pub returns-in_err-word : goal.returns-in_err-word
-returns-in_err-word c =
-    let all = all_of c.args.self.now in
-    let here = words_among lead_words (drop c.list.at all) in
-    let e = c.in_err-word.field-0.0 in
-    let found = sym c.has_lead_word.ensures ∙ c.list-test.true in
-    let g = stops_through all e (one (word_among lead_words) (drop c.list.at all)) (words_among lead_words (drop c.args.from all))
-    (λ n i. sym c.list.invariant ∙ front_bad c.list.list.items n here (words_bad lead_words (codes "internal") refl (drop c.list.at all) n found i)) c.in_err-word.ensures in
-    gives_error all e c.from_residual.result (words_among lead_words (drop c.args.from all)) c.from_residual.ensures.1 g
-
-pub list-smaller : goal.list-smaller
-list-smaller c = let a = c.in_ok-word.ensures in word_shorter lead_words (codes "internal") refl _ _ _ a
-
-pub list-preserved : goal.list-preserved
-list-preserved c =
-    let all = all_of c.args.self.now in
-    let front = c.list.list.items in
-    let next = drop c.in_ok-word.next all in
-    let item = words_item lead_words (codes "internal") refl (drop c.list.at all) next c.in_ok-word.word (sym c.has_lead_word.ensures ∙ c.list-test.true) c.in_ok-word.ensures in
-    let e = front_item front c.in_ok-word.word (words_among lead_words (drop c.list.at all)) (words_among lead_words next) item in
-    ap (λ z. with_front z (words_among lead_words next)) c.in_ok-push.ensures.items ∙ sym e ∙ c.list.invariant
-
 pub returns : goal.returns
-returns c =
-    let all = all_of c.args.self.now in
-    sym c.list.invariant ∙ front_done c.list.list.items (drop c.list.at all) (words_among lead_words (drop c.list.at all)) (words_done lead_words (codes "internal") refl (drop c.list.at all) (sym c.has_lead_word.ensures ∙ c.list-test.false))
+returns c = c.words_among.ensures

@@ -1,43 +1,55 @@
-use Rattle.std.proofs.Common.{◌≡◌, ◌∙◌, ◌++◌, sym, ap, subst, All, true, map, flat_map, None}
-use Rattle.vfa_ir.specs.DefinedNames.{block_uses, line_uses, transfer_uses}
-use Rattle.vfa_ir.specs.Resolution.{inst_of, phi_of, phis_of, plain_of}
-use Rattle.vfa_read.specs.Resolving.{FitsLine, IsUnknown, unknown_in}
-use Rattle.vfa_read.proofs.FitsEach.{each_line_fits}
-use Rattle.vfa_read.proofs.Unknowns.{error_of_first, error_of_second, error_resolves, known_both}
+use Rattle.std.proofs.Common.{◌≡◌, ◌∙◌, ◌++◌, List, sym, ap, subst, refl, map, flat_map, length, None}
+use Rattle.vfa_ir.specs.declared.syntax.Instruction.{Instruction}
+use Rattle.vfa_ir.specs.declared.syntax.PhiNode.{PhiNode}
+use Rattle.vfa_ir.specs.DefinedNames.{Use, block_uses, operation_uses, phi_uses, terminator_uses}
+use Rattle.vfa_ir.specs.Resolution.{instruction_calls, insts_of, phi_of}
+use Rattle.vfa_read.specs.Resolving.{IsUnknown, unknown_in}
+use Rattle.vfa_read.proofs.Unknowns.{all_known, error_resolves, first_unknown_of, second_unknown, third_unknown}
 use Rattle.vfa_read.proofs.resolution.table.SymbolTable.basic_block.Goals as goal
 
-pub push_lines-requires : goal.push_lines-requires
-push_lines-requires c =
-    let b = c.args.block.now in
-    subst (All FitsLine) (sym c.as_slice.ensures) (each_line_fits true b.lines c.requires.lines)
+abbrev of_phis : List PhiNode → List Use
+of_phis = flat_map phi_uses
 
-pub returns-in_err-push_lines : goal.returns-in_err-push_lines
-returns-in_err-push_lines c =
+abbrev of_instructions : List Instruction → List Use
+of_instructions = flat_map (λ i. operation_uses i.operation)
+
+pub returns-in_err-phis-clause-resolves : goal.returns-in_err-phis-clause-resolves
+returns-in_err-phis-clause-resolves c =
     let scope = c.args.self.now in
     let b = c.args.block.now in
-    let e = c.in_err-push_lines.field-0.0 in
-    let unknown = subst (λ lines. IsUnknown (unknown_in scope (flat_map line_uses lines)) e) c.as_slice.ensures c.in_err-push_lines.ensures.unknown in
-    error_resolves scope (block_uses b) _ _ e c.from_residual-in_err-push_lines.ensures.1
-    (error_of_first scope (flat_map line_uses b.lines) (transfer_uses b.terminator.transfer) e unknown)
+    let e = c.in_err-phis.field-0.0 in
+    let unknown = subst (λ z. IsUnknown (unknown_in scope (of_phis z)) e) c.as_slice.ensures c.in_err-phis.ensures in
+    error_resolves scope (block_uses b) _ _ e c.from_residual-in_err-phis.ensures.1
+    (first_unknown_of scope (of_phis b.phis) (of_instructions b.instructions) (terminator_uses b.terminator.kind) (block_uses b) e refl unknown)
 
-pub returns-in_err-term : goal.returns-in_err-term
-returns-in_err-term c =
+pub returns-in_err-insts-clause-resolves : goal.returns-in_err-insts-clause-resolves
+returns-in_err-insts-clause-resolves c =
+    let scope = c.args.self.now in
+    let b = c.args.block.now in
+    let e = c.in_err-insts.field-0.0 in
+    let known = subst (λ z. unknown_in scope (of_phis z) ≡ None) c.as_slice.ensures c.in_ok-phis.ensures.0 in
+    let unknown = subst (λ z. IsUnknown (unknown_in scope (of_instructions z)) e) c.as_slice-2.ensures c.in_err-insts.ensures.resolves in
+    error_resolves scope (block_uses b) _ _ e c.from_residual-in_err-insts.ensures.1
+    (second_unknown scope (of_phis b.phis) (of_instructions b.instructions) (terminator_uses b.terminator.kind) (block_uses b) e refl known unknown)
+
+pub returns-in_err-term-clause-resolves : goal.returns-in_err-term-clause-resolves
+returns-in_err-term-clause-resolves c =
     let scope = c.args.self.now in
     let b = c.args.block.now in
     let e = c.in_err-term.field-0.0 in
-    let known = subst (λ lines. unknown_in scope (flat_map line_uses lines) ≡ None) c.as_slice.ensures c.in_ok-push_lines.ensures.known in
+    let known = subst (λ z. unknown_in scope (of_phis z) ≡ None) c.as_slice.ensures c.in_ok-phis.ensures.0 in
+    let next = subst (λ z. unknown_in scope (of_instructions z) ≡ None) c.as_slice-2.ensures c.in_ok-insts.ensures.resolves.0 in
     error_resolves scope (block_uses b) _ _ e c.from_residual-in_err-term.ensures.1
-    (error_of_second scope (flat_map line_uses b.lines) (transfer_uses b.terminator.transfer) e known c.in_err-term.ensures)
+    (third_unknown scope (of_phis b.phis) (of_instructions b.instructions) (terminator_uses b.terminator.kind) (block_uses b) e refl known next c.in_err-term.ensures)
 
-pub returns : goal.returns
-returns c =
+pub returns-clause-resolves : goal.returns-clause-resolves
+returns-clause-resolves c =
     let scope = c.args.self.now in
     let b = c.args.block.now in
-    let known = subst (λ lines. unknown_in scope (flat_map line_uses lines) ≡ None) c.as_slice.ensures c.in_ok-push_lines.ensures.known in
-    let p = c.in_ok-push_lines.ensures.phis ∙ ap (λ made. made ++ map (phi_of scope) (phis_of c.as_slice.result.now)) c.new-phis.ensures.items
-    ∙ ap (λ lines. map (phi_of scope) (phis_of lines)) c.as_slice.ensures in
-    let q = c.in_ok-push_lines.ensures.insts ∙ ap (λ made. made ++ map (inst_of scope) (plain_of c.as_slice.result.now)) c.new-insts.ensures.items
-    ∙ ap (λ lines. map (inst_of scope) (plain_of lines)) c.as_slice.ensures in (
-      known_both scope (flat_map line_uses b.lines) (transfer_uses b.terminator.transfer) known c.in_ok-term.ensures.0,
+    let known = subst (λ z. unknown_in scope (of_phis z) ≡ None) c.as_slice.ensures c.in_ok-phis.ensures.0 in
+    let next = subst (λ z. unknown_in scope (of_instructions z) ≡ None) c.as_slice-2.ensures c.in_ok-insts.ensures.resolves.0 in
+    let p = c.in_ok-phis.ensures.1 ∙ ap (map (phi_of scope)) c.as_slice.ensures in
+    let q = c.in_ok-insts.ensures.resolves.1 ∙ ap (insts_of scope (length c.args.calls.now.items)) c.as_slice-2.ensures in (
+      all_known scope (of_phis b.phis) (of_instructions b.instructions) (terminator_uses b.terminator.kind) (block_uses b) refl known next c.in_ok-term.ensures.0,
       λ i. record { name = c.in_ok-name.ensures i; phis = p i; insts = q i; term = c.in_ok-term.ensures.1 i },
     )
