@@ -1,4 +1,4 @@
-//! The tokens of a module's text: runs, strings, names behind a sigil, labels, numbers, words and marks.
+//! The tokens of a module's text: runs, strings, names after a sigil, labels, numbers, words and marks.
 #![tactic(auto)]
 
 mod bytes;
@@ -7,4 +7,5 @@ mod reading;
 #[cfg(test)]
 mod tests;
 
+pub use bytes::is_blank;
 pub use reading::{line_behind, token_at, tokens};

@@ -1,4 +1,4 @@
-//! What stands at the front of a text: a gap or a token.
+//! What a text begins with: a gap or a token.
 
 ghost use Rattle.std.specs.Prelude.{◌≡◌, ◌<◌, ◌≤◌, ◌+◌, length};
 ghost use Rattle.vfa_ir.specs.Tokens as spec;
@@ -17,9 +17,9 @@ pub(crate) enum Piece {
     Token(TokenKind, usize),
 }
 
-#[tactic(auto, unfolding(vfa_ir::specs::Tokens::piece_of))]
 /// The piece that begins with this byte, which stands before the others.
-pub(crate) fn front_piece(first: u8, rest: &[u8]) -> Piece
+#[tactic(auto, unfolding(vfa_ir::specs::Tokens::piece_of))]
+pub(crate) fn first_piece(first: u8, rest: &[u8]) -> Piece
     ensures { as_piece result ≡ spec.piece_of first rest.now }
 {
     if is_blank(first) {
@@ -91,8 +91,8 @@ fn run(first: u8, rest: &[u8]) -> Piece
     or_label(kind, more, rest)
 }
 
-#[tactic(auto, unfolding(vfa_ir::specs::Tokens::or_label))]
 /// A label where a colon follows directly, and else this kind.
+#[tactic(auto, unfolding(vfa_ir::specs::Tokens::or_label))]
 fn or_label(kind: TokenKind, more: usize, rest: &[u8]) -> Piece
     ensures { as_piece result ≡ spec.or_label kind more rest.now }
 {

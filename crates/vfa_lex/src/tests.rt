@@ -1,3 +1,5 @@
+//! Tests of the table of kinds and of whole texts.
+
 use super::*;
 use vfa_ir::{Token, TokenKind};
 

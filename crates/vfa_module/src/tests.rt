@@ -1,3 +1,5 @@
+//! Tests of whole modules, of their failures and of each prefix of a define.
+
 use super::*;
 use std::alloc::Global;
 
@@ -98,7 +100,7 @@ fn the_first_failure(rt: HostRuntime) {
 }
 
 #[test]
-fn each_front_of_a_text(rt: HostRuntime) {
+fn each_prefix_of_a_text(rt: HostRuntime) {
     for k in 1..7 {
         assert!(rt; splits(rt.alloc(), &MASKS[..k], &[Item::Lines { start: 0, end: k }]));
     }
