@@ -5,36 +5,7 @@ ghost use Rattle.std.specs.List.{list_all, prefix_len};
 ghost use Rattle.std.specs.Str.{byte};
 ghost use Rattle.vfa_ir.specs.Tokens as spec;
 
-/// Whether the byte is white space: a space, a tab, a carriage return or a line feed.
-///
-/// The byte of `\n` is; that of `;` is not, although it begins a comment.
-#[tactic(auto, unfolding(vfa_ir::specs::Tokens::is_blank))]
-pub fn is_blank(b: u8) -> bool
-    ensures { result ≡ spec.is_blank b }
-{
-    b == b' ' || b == b'\t' || b == b'\r' || b == b'\n'
-}
-
-#[tactic(auto, unfolding(vfa_ir::specs::Tokens::is_digit))]
-pub(crate) fn is_digit(b: u8) -> bool
-    ensures { result ≡ spec.is_digit b }
-{
-    b'0' <= b && b <= b'9'
-}
-
-#[tactic(auto, unfolding(vfa_ir::specs::Tokens::is_run_byte))]
-pub(crate) fn is_run_byte(b: u8) -> bool
-    ensures { result ≡ spec.is_run_byte b }
-{
-    is_letter(b) || is_digit(b) || b == b'-' || b == b'$' || b == b'.' || b == b'_'
-}
-
-#[tactic(auto, unfolding(vfa_ir::specs::Tokens::is_letter))]
-fn is_letter(b: u8) -> bool
-    ensures { result ≡ spec.is_letter b }
-{
-    (b'A' <= b && b <= b'Z') || (b'a' <= b && b <= b'z')
-}
+use vfa_ir::{is_digit, is_run_byte};
 
 #[tactic(auto, unfolding(vfa_ir::specs::Tokens::is_mark))]
 pub(crate) fn is_mark(b: u8) -> bool

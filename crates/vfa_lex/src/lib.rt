@@ -7,5 +7,4 @@ mod reading;
 #[cfg(test)]
 mod tests;
 
-pub use bytes::is_blank;
 pub use reading::{line_behind, token_at, tokens};

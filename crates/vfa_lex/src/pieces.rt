@@ -5,10 +5,9 @@ ghost use Rattle.vfa_ir.specs.Tokens as spec;
 ghost use Rattle.vfa_lex.specs.Pieces.{as_piece};
 
 use crate::bytes::{
-    digits, is_blank, is_mark, is_number, is_run_byte, line_length, name_length, quoted_length,
-    run_length,
+    digits, is_mark, is_number, line_length, name_length, quoted_length, run_length,
 };
-use vfa_ir::TokenKind;
+use vfa_ir::{TokenKind, is_blank, is_run_byte};
 
 /// White space or a comment, or a token of a kind: its first byte and so many more.
 #[derive(Clone, Copy, Debug, PartialEq, Eq)]

@@ -3,7 +3,7 @@
 ghost use Rattle.std.specs.Prelude.{◌≡◌, ◌<◌, ◌≤◌, ◌+◌, ◌==◌, length, position, IfSome};
 ghost use Rattle.vfa_module.specs.Split as spec;
 
-use vfa_lex::is_blank;
+use vfa_ir::is_blank;
 
 /// How many spaces and tabs stand at the front.
 fn indent(bytes: &[u8]) -> usize
