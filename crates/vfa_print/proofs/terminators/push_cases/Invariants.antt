@@ -2,7 +2,7 @@ use Rattle.std.proofs.Common.{◌≡◌, ◌++◌, drop, flat_map, map, codes}
 use Rattle.vfa_ir.specs.Spelling.{switch_case}
 use Rattle.vfa_print.specs.Layout.{text_line}
 use Rattle.vfa_print.specs.Trees.{case_tree}
-use Rattle.vfa_print.proofs.transfers.push_cases.Given as goal
+use Rattle.vfa_print.proofs.terminators.push_cases.Given as goal
 
 abbrev pub invariant-cases : goal.invariant-cases
 invariant-cases l =

@@ -4,7 +4,7 @@ ghost use Rattle.std.specs.Prelude.{◌≡◌, ◌++◌, ℕ, codes, flat_map, m
 ghost use Rattle.vfa_ir.specs.declared.functions.Term.{Term as TermOf};
 ghost use Rattle.vfa_ir.specs.declared.operations.BlockId.{BlockId as BlockIdOf};
 ghost use Rattle.vfa_ir.specs.Spelling.{switch_case as case_tokens, typed as typed_tokens};
-ghost use Rattle.vfa_print.specs.Layout.{indented, switch_front as front_tokens, text_line, transfer_text};
+ghost use Rattle.vfa_print.specs.Layout.{indented, switch_front as first_tokens, text_line, terminator_text};
 ghost use Rattle.vfa_print.specs.Trees.{block_name_at, case_tree, operand_tree, term_tree};
 ghost use Rattle.vfa_print.specs.Writing.{with_tokens};
 
@@ -15,7 +15,7 @@ use std::alloc::AllocError;
 use vfa_ir::{BlockId, Operand, Term};
 
 fn push_return(w: &mut Writer, names: &ShownNames, width: u32, a: Operand) -> Result<(), AllocError>
-    ensures { IfOk result (λ _. w.new.text ≡ w.old.text ++ transfer_text (term_tree names.now (TermOf.Ret width a))) }
+    ensures { IfOk result (λ _. w.new.text ≡ w.old.text ++ terminator_text (term_tree names.now (TermOf.Ret width a))) }
 {
     w.bytes(b"  ")?;
     w.word(b"ret")?;
@@ -24,7 +24,7 @@ fn push_return(w: &mut Writer, names: &ShownNames, width: u32, a: Operand) -> Re
 }
 
 fn push_branch(w: &mut Writer, names: &ShownNames, to: BlockId) -> Result<(), AllocError>
-    ensures { IfOk result (λ _. w.new.text ≡ w.old.text ++ transfer_text (term_tree names.now (TermOf.Br to))) }
+    ensures { IfOk result (λ _. w.new.text ≡ w.old.text ++ terminator_text (term_tree names.now (TermOf.Br to))) }
 {
     w.bytes(b"  ")?;
     w.word(b"br")?;
@@ -39,7 +39,7 @@ fn push_condition(
     yes: BlockId,
     no: BlockId,
 ) -> Result<(), AllocError>
-    ensures { IfOk result (λ _. w.new.text ≡ w.old.text ++ transfer_text (term_tree names.now (TermOf.CondBr c yes no))) }
+    ensures { IfOk result (λ _. w.new.text ≡ w.old.text ++ terminator_text (term_tree names.now (TermOf.CondBr c yes no))) }
 {
     w.bytes(b"  ")?;
     w.word(b"br")?;
@@ -51,9 +51,9 @@ fn push_condition(
     w.bytes(b"\n")
 }
 
-/// The front of a switch, up to the bracket before its cases.
+/// The first line of a switch, up to the bracket before its cases.
 #[tactic(auto, using(crate::proofs::Drafts::with_tokens_append))]
-fn push_front(
+fn push_first(
     w: &mut Writer,
     names: &ShownNames,
     width: u32,
@@ -61,7 +61,7 @@ fn push_front(
     other: BlockId,
 ) -> Result<(), AllocError>
     ensures { IfOk result (λ _. w.new ≡ with_tokens w.old
-        (front_tokens width (typed_tokens width (operand_tree names.now width on)) (block_name_at names.now other))) }
+        (first_tokens width (typed_tokens width (operand_tree names.now width on)) (block_name_at names.now other))) }
 {
     w.word(b"switch")?;
     push_typed(w, names, width, on)?;
@@ -115,7 +115,7 @@ fn push_cases(
     Ok(())
 }
 
-fn push_front_line(
+fn push_first_line(
     w: &mut Writer,
     names: &ShownNames,
     width: u32,
@@ -123,10 +123,10 @@ fn push_front_line(
     other: BlockId,
 ) -> Result<(), AllocError>
     ensures { IfOk result (λ _. w.new.text ≡ w.old.text
-        ++ indented (front_tokens width (typed_tokens width (operand_tree names.now width on)) (block_name_at names.now other))) }
+        ++ indented (first_tokens width (typed_tokens width (operand_tree names.now width on)) (block_name_at names.now other))) }
 {
     w.bytes(b"  ")?;
-    push_front(w, names, width, on, other)?;
+    push_first(w, names, width, on, other)?;
     w.bytes(b"\n")
 }
 
@@ -138,16 +138,16 @@ fn push_switch(
     other: BlockId,
     cases: &[(u128, BlockId)],
 ) -> Result<(), AllocError>
-    ensures { IfOk result (λ _. w.new.text ≡ w.old.text ++ transfer_text (term_tree names.now (TermOf.Switch width on other cases.now))) }
+    ensures { IfOk result (λ _. w.new.text ≡ w.old.text ++ terminator_text (term_tree names.now (TermOf.Switch width on other cases.now))) }
 {
-    push_front_line(w, names, width, on, other)?;
+    push_first_line(w, names, width, on, other)?;
     push_cases(w, names, width, cases)?;
     w.bytes(b"  ]\n")
 }
 
 /// A terminator.
 pub fn push_term(w: &mut Writer, names: &ShownNames, term: &Term) -> Result<(), AllocError>
-    ensures { IfOk result (λ _. w.new.text ≡ w.old.text ++ transfer_text (term_tree names.now term.now)) }
+    ensures { IfOk result (λ _. w.new.text ≡ w.old.text ++ terminator_text (term_tree names.now term.now)) }
 {
     match term {
         Term::Ret { width, a } => push_return(w, names, *width, *a),

@@ -2,7 +2,7 @@ use Rattle.std.proofs.Common.{arith, codes}
 use Rattle.vfa_ir.specs.Spelling.{switch_case}
 use Rattle.vfa_print.specs.Trees.{case_tree}
 use Rattle.vfa_print.proofs.Drafts.{line_ends, with_tokens_append}
-use Rattle.vfa_print.proofs.transfers.push_case_line.Goals as goal
+use Rattle.vfa_print.proofs.terminators.push_case_line.Goals as goal
 
 pub returns : goal.returns
 returns c =
