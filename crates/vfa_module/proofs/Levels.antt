@@ -8,7 +8,7 @@ use Rattle.vfa_ir.specs.declared.tokens.Token.{Token}
 use Rattle.vfa_module.specs.Defines.{IsFirst, IsOutside, CanOpenBody, AreLevel, Closes, bracket_count, global_count, tokens_between}
 use Rattle.vfa_module.specs.Split as spec
 
-abbrev one_if : Bool → ℕ
+abbrev pub one_if : Bool → ℕ
 one_if b = cond b 1 0
 
 cases_false : (x : Bool) → (x && true) ≡ false → x ≡ false
@@ -118,7 +118,7 @@ body_step text braces t rest unclosed left =
         record {
           place = suc found.place;
           first = first_later (LevelFrom text braces (t ∷ rest)) (LevelFrom text (spec.braces_after braces (spec.front_byte text t)) rest)
-          found.place not_here (λ k. (counts k).0) (λ k. (counts k).1) found.first;
+              found.place not_here (λ k. (counts k).0) (λ k. (counts k).1) found.first;
           token = found.token;
         }
 

@@ -24,7 +24,7 @@ nothing [] e = refl
 nothing (b ∷ bs) e = absurd (omega arith)
 
 -- the word of a define stands within the text
-word_inside : (text : List ℕ) (start : ℕ) → BeginsDefine text start → start < length text
+pub word_inside : (text : List ℕ) (start : ℕ) → BeginsDefine text start → start < length text
 unfolding spec.begins_define
 word_inside text start d =
     elim (cases_lt start (length text)) [
@@ -210,7 +210,7 @@ byte_of_define text named parens (u ∷ ts) t e =
     by_test true e left = byte_of_body text 0 ts t e
     by_test false e left = left e
 
-all_at : (P : Token → Type 0) (ts : List Token) (k : ℕ) (t : Token) → AllByRecursion P ts → slice_get ts k ≡ Some t → P t
+pub all_at : (P : Token → Type 0) (ts : List Token) (k : ℕ) (t : Token) → AllByRecursion P ts → slice_get ts k ≡ Some t → P t
 all_at P [] k t all e = absurd (cc)
 all_at P (u ∷ ts) zero t all e = let same : u ≡ t = (cc) in subst P same all.0
 all_at P (u ∷ ts) (suc k) t all e = all_at P ts k t all.1 e

@@ -102,6 +102,15 @@ pub record IsDefine (text : List ℕ) (start end line : ℕ) : Type 0 where
   pub last : slice_index text (end - 1) ≡ byte "}"
   pub clear : ¬ HasMore (drop end text)
 
+-- a global name between the two offsets, as a token that is read from the first on
+pub record HasName (text : List ℕ) (start end : ℕ) : Type 0 where
+  pub place : ℕ
+  pub name : Token
+  pub token : slice_get (tokens_at text start) place ≡ Some name
+  pub kind : is_global name.kind ≡ true
+  pub after : start ≤ name.start
+  pub before : name.end < end
+
 -- no define begins between the two offsets
 abbrev pub HasNoDefine : List ℕ → ℕ → ℕ → Type 0
 HasNoDefine text start end = (at : ℕ) → start ≤ at → at < end → ¬ BeginsDefine text at

@@ -1,9 +1,12 @@
 //! Laws of the split, which hold of every text.
 
-ghost use Rattle.std.specs.Prelude.{◌≡◌, ◌↔◌, ℕ, false, List};
+ghost use Rattle.std.specs.Prelude.{◌≡◌, ◌↔◌, ℕ, false, List, length};
+ghost use Rattle.std.specs.Str.{byte};
+ghost use Rattle.vfa_ir.specs.Tokens.{IsPlaced};
 ghost use Rattle.vfa_ir.specs.declared.tokens.Token.{Token};
-ghost use Rattle.vfa_module.specs.Defines.{Closes, IsBadLine, IsSplit, IsUnclosed};
-ghost use Rattle.vfa_module.specs.Split.{closing_of_define, split_of};
+ghost use Rattle.vfa_ir.specs.declared.tokens.TokenKind.TheVariants.{Other};
+ghost use Rattle.vfa_module.specs.Defines.{Closes, HasName, IsBadLine, IsDefine, IsSplit, IsUnclosed};
+ghost use Rattle.vfa_module.specs.Split.{closing_of_define, front_byte, split_of};
 ghost use Rattle.vfa_module.specs.declared.items.Item.{Item};
 ghost use Rattle.vfa_module.specs.declared.items.SplitFault.TheVariants.{BadLine, Unclosed};
 
@@ -11,6 +14,17 @@ ghost use Rattle.vfa_module.specs.declared.items.SplitFault.TheVariants.{BadLine
 pub fn a_define_is_closed_where_its_braces_are_level()
     ensures { (text : List ℕ) (ts : List Token) (t : Token) →
         (closing_of_define text false 0 ts ≡ Some t) ↔ Closes text ts t }
+{}
+
+/// Each define has a global name before its closing brace.
+pub fn a_define_has_a_name()
+    ensures { (text : List ℕ) (start end line : ℕ) → IsDefine text start end line → HasName text start end }
+{}
+
+/// A string without a closing quote takes all bytes to the end of the text, so nothing after it closes a define.
+pub fn an_unclosed_string_is_the_rest()
+    ensures { (text : List ℕ) (from line : ℕ) (t : Token) → IsPlaced text from line t →
+        front_byte text t ≡ byte "\"" → t.kind ≡ Other → t.end ≡ length text }
 {}
 
 /// A text splits into the one list of items that covers it.

@@ -65,10 +65,6 @@ boolean_below : (b : Bool) → literal_bits 1 (Literal.Boolean b) < 2 ^ 1
 boolean_below true = omega arith
 boolean_below false = omega arith
 
-boolean_same : (width : ℕ) (b : Bool) → literal_bits width (Literal.Boolean b) ≡ literal_bits 1 (Literal.Boolean b)
-boolean_same width true = refl
-boolean_same width false = refl
-
 literal_below : (width : ℕ) (l : Literal) → FitsLiteral width l → literal_bits width l < 2 ^ width
 literal_below width (Literal.Boolean b) fits = subst (λ w. literal_bits w (Literal.Boolean b) < 2 ^ w) (sym fits) (boolean_below b)
 literal_below width (Literal.Number text) fits = bits_below width _ fits.in_range

@@ -20,11 +20,3 @@ tree_known f printable = uses_known f printable
 pub tree_back : (f : Function) → IsPrintable f → HasFewNames f → function_of (tree_of f) f.tail ≡ f
 tree_back f printable few = function_back f printable few
 
--- lists in memory are as short as that
-pub few_names : (f : Function) → length f.values < 2 ^ 64 → length f.blocks < 2 ^ 64 → HasFewNames f
-few_names f values blocks = omega (arith, values, blocks)
-
--- decimals are exact below 10 ^ 64 alone
-numbers_meet : decimal (10 ^ 63) ≡ decimal (10 ^ 64 + 10 ^ 63)
-unfolding digits
-numbers_meet = refl
