@@ -222,7 +222,6 @@ module _ (f : Function) (scope : Scope) (calls : AllByRecursion (PrintableCall f
   result_fits (Op.Over _ _ _ _) (Some v) name h = tt
   result_fits (Op.Part _ _ _) (Some v) name h = tt
   result_fits (Op.Assume _) (Some v) name h = h
-
   result_fits (Op.Call None place) None name h = no_result (slice_get f.calls place)
     where
       no_result : (o : Option CallOp) → FitsResult (call_tree scope None o) None

@@ -246,9 +246,10 @@ module _ (f : Function) (scope : Scope) (as_values : length scope.values ≡ len
       (n : ℕ) (is : List Instruction) → AllByRecursion FitsInstruction is →
       Known (flat_map (λ (i : Instruction). operation_uses i.operation) is) → AllByRecursion (PrintableInst f) (insts_of scope n is)
   insts_are n [] fits known = tt
-  insts_are n (i ∷ is) fits known =
-      (inst_is n i fits.0 (all_front _ (operation_uses i.operation) _ known),
-      insts_are (if is_call i then suc n else n) is fits.1 (all_back _ (operation_uses i.operation) _ known))
+  insts_are n (i ∷ is) fits known = (
+    inst_is n i fits.0 (all_front _ (operation_uses i.operation) _ known),
+    insts_are (if is_call i then suc n else n) is fits.1 (all_back _ (operation_uses i.operation) _ known),
+  )
 
   block_of_is : (n : ℕ) (b : BasicBlock) → FitsBlock b → Known (block_uses b) → PrintableBlock f (block_of scope n b)
   block_of_is n b fits known =
@@ -266,6 +267,7 @@ module _ (f : Function) (scope : Scope) (as_values : length scope.values ≡ len
       (n : ℕ) (bs : List BasicBlock) → AllByRecursion FitsBlock bs → Known (flat_map block_uses bs) →
       AllByRecursion (PrintableBlock f) (blocks_of scope n bs)
   blocks_are n [] fits known = tt
-  blocks_are n (b ∷ bs) fits known =
-      (block_of_is n b fits.0 (all_front _ (block_uses b) _ known),
-      blocks_are (n + call_count b) bs fits.1 (all_back _ (block_uses b) _ known))
+  blocks_are n (b ∷ bs) fits known = (
+    block_of_is n b fits.0 (all_front _ (block_uses b) _ known),
+    blocks_are (n + call_count b) bs fits.1 (all_back _ (block_uses b) _ known),
+  )

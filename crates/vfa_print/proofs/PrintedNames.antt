@@ -1,6 +1,5 @@
 -- The tree of a function defines each name once, uses names that it defines, and is the tree of that function.
-use Rattle.std.proofs.Common.{◌≡◌, ◌+◌, ◌<◌, ◌^◌, length, arith, None, decimal, refl}
-use Rattle.std.specs.Fmt.{digits}
+use Rattle.std.proofs.Common.{◌≡◌, None}
 use Rattle.vfa_ir.specs.declared.functions.Function.{Function}
 use Rattle.vfa_ir.specs.DefinedNames.{duplicate_of, unknown_of}
 use Rattle.vfa_ir.specs.Printable.{IsPrintable}
@@ -19,4 +18,3 @@ tree_known f printable = uses_known f printable
 
 pub tree_back : (f : Function) → IsPrintable f → HasFewNames f → function_of (tree_of f) f.tail ≡ f
 tree_back f printable few = function_back f printable few
-

@@ -251,7 +251,9 @@ fn comparisons(alloc: Global) -> Result<Vec<(Option<ValueId>, Op)>, AllocError> 
     Ok(insts)
 }
 
-fn intrinsics(mut insts: Vec<(Option<ValueId>, Op)>) -> Result<Vec<(Option<ValueId>, Op)>, AllocError> {
+fn intrinsics(
+    mut insts: Vec<(Option<ValueId>, Op)>,
+) -> Result<Vec<(Option<ValueId>, Op)>, AllocError> {
     insts.push((
         Some(ValueId(6)),
         Op::Two {
@@ -494,12 +496,7 @@ fn call(
     })
 }
 
-fn arg(
-    alloc: Global,
-    width: u32,
-    all: &[&[u8]],
-    passed: Operand,
-) -> Result<CallArg, AllocError> {
+fn arg(alloc: Global, width: u32, all: &[&[u8]], passed: Operand) -> Result<CallArg, AllocError> {
     Ok(CallArg {
         width,
         words: words(alloc, all)?,
@@ -542,7 +539,13 @@ fn newer_flags_and_calls(rt: HostRuntime) -> Result<(), Fail> {
             call: 0,
         },
     ))?;
-    insts.push((None, Op::Call { width: None, call: 1 }))?;
+    insts.push((
+        None,
+        Op::Call {
+            width: None,
+            call: 1,
+        },
+    ))?;
     insts.push((
         Some(ValueId(6)),
         Op::Call {
