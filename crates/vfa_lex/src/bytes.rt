@@ -2,35 +2,10 @@
 
 ghost use Rattle.std.specs.Prelude.{◌≡◌, ◌<◌, ◌≤◌, ◌^◌, ◌==◌, length, slice_index, not, ◌||◌};
 ghost use Rattle.std.specs.List.{list_all, prefix_len};
+ghost use Rattle.std.specs.Str.{byte};
 ghost use Rattle.vfa_ir.specs.Tokens as spec;
 
-#[tactic(auto, unfolding(vfa_ir::specs::Tokens::is_blank))]
-pub(crate) fn is_blank(b: u8) -> bool
-    ensures { result ≡ spec.is_blank b }
-{
-    b == b' ' || b == b'\t' || b == b'\r' || b == b'\n'
-}
-
-#[tactic(auto, unfolding(vfa_ir::specs::Tokens::is_digit))]
-pub(crate) fn is_digit(b: u8) -> bool
-    ensures { result ≡ spec.is_digit b }
-{
-    b'0' <= b && b <= b'9'
-}
-
-#[tactic(auto, unfolding(vfa_ir::specs::Tokens::is_run_byte))]
-pub(crate) fn is_run_byte(b: u8) -> bool
-    ensures { result ≡ spec.is_run_byte b }
-{
-    is_letter(b) || is_digit(b) || b == b'-' || b == b'$' || b == b'.' || b == b'_'
-}
-
-#[tactic(auto, unfolding(vfa_ir::specs::Tokens::is_letter))]
-fn is_letter(b: u8) -> bool
-    ensures { result ≡ spec.is_letter b }
-{
-    (b'A' <= b && b <= b'Z') || (b'a' <= b && b <= b'z')
-}
+use vfa_ir::{is_digit, is_run_byte};
 
 #[tactic(auto, unfolding(vfa_ir::specs::Tokens::is_mark))]
 pub(crate) fn is_mark(b: u8) -> bool
@@ -54,14 +29,14 @@ fn is_bracket(b: u8) -> bool
     b == b'(' || b == b')' || b == b'[' || b == b']' || b == b'{' || b == b'}'
 }
 
-/// The length of the longest run at the front.
+/// The length of the longest run that the bytes begin with.
 pub(crate) fn run_length(bytes: &[u8]) -> usize
     ensures { result ≡ spec.run_len bytes.now }
 {
     bytes.iter().take_while(|b| is_run_byte(**b)).count()
 }
 
-/// How many digits stand at the front.
+/// How many digits the bytes begin with.
 pub(crate) fn digits(bytes: &[u8]) -> usize
     ensures { result ≡ prefix_len spec.is_digit bytes.now }
 {
@@ -75,7 +50,7 @@ pub(crate) fn line_length(bytes: &[u8]) -> usize
     bytes.iter().take_while(|b| **b != b'\n').count()
 }
 
-/// How many bytes a string takes behind its opening quote; None where no quote closes it.
+/// How many bytes a string takes after its opening quote; None where no quote closes it.
 pub(crate) fn quoted_length(bytes: &[u8]) -> Option<usize>
     ensures { result ≡ spec.quoted_len bytes.now }
 {
@@ -88,12 +63,12 @@ pub(crate) fn quoted_length(bytes: &[u8]) -> Option<usize>
 }
 
 fn before_quote(bytes: &[u8]) -> usize
-    ensures { result ≡ prefix_len (λ b. not (b == 34)) bytes.now }
+    ensures { result ≡ prefix_len (λ b. not (b == byte "\"")) bytes.now }
 {
     bytes.iter().take_while(|b| **b != b'"').count()
 }
 
-/// The length of the run or string at the front; 0 where there is neither.
+/// The length of the run or string that the bytes begin with; 0 where they begin with neither.
 pub(crate) fn name_length(bytes: &[u8]) -> usize
     ensures { result ≡ spec.name_len bytes.now }
 {
@@ -117,7 +92,7 @@ pub(crate) fn is_number(first: u8, more: &[u8]) -> bool
 }
 
 fn begins_number(b: u8) -> bool
-    ensures { result ≡ (spec.is_digit b || b == 45) }
+    ensures { result ≡ (spec.is_digit b || b == byte "-") }
 {
     is_digit(b) || b == b'-'
 }

@@ -1,4 +1,4 @@
-//! The tokens of a module's text: runs, strings, names behind a sigil, labels, numbers, words and marks.
+//! The tokens of a module's text: runs, strings, names after a sigil, labels, numbers, words and marks.
 #![tactic(auto)]
 
 mod bytes;

@@ -1,14 +1,13 @@
-//! What stands at the front of a text: a gap or a token.
+//! What a text begins with: a gap or a token.
 
 ghost use Rattle.std.specs.Prelude.{◌≡◌, ◌<◌, ◌≤◌, ◌+◌, length};
 ghost use Rattle.vfa_ir.specs.Tokens as spec;
 ghost use Rattle.vfa_lex.specs.Pieces.{as_piece};
 
 use crate::bytes::{
-    digits, is_blank, is_mark, is_number, is_run_byte, line_length, name_length, quoted_length,
-    run_length,
+    digits, is_mark, is_number, line_length, name_length, quoted_length, run_length,
 };
-use vfa_ir::TokenKind;
+use vfa_ir::{TokenKind, is_blank, is_run_byte};
 
 /// White space or a comment, or a token of a kind: its first byte and so many more.
 #[derive(Clone, Copy, Debug, PartialEq, Eq)]
@@ -17,9 +16,9 @@ pub(crate) enum Piece {
     Token(TokenKind, usize),
 }
 
-#[tactic(auto, unfolding(vfa_ir::specs::Tokens::piece_of))]
 /// The piece that begins with this byte, which stands before the others.
-pub(crate) fn front_piece(first: u8, rest: &[u8]) -> Piece
+#[tactic(auto, unfolding(vfa_ir::specs::Tokens::piece_of))]
+pub(crate) fn first_piece(first: u8, rest: &[u8]) -> Piece
     ensures { as_piece result ≡ spec.piece_of first rest.now }
 {
     if is_blank(first) {
@@ -91,8 +90,8 @@ fn run(first: u8, rest: &[u8]) -> Piece
     or_label(kind, more, rest)
 }
 
-#[tactic(auto, unfolding(vfa_ir::specs::Tokens::or_label))]
 /// A label where a colon follows directly, and else this kind.
+#[tactic(auto, unfolding(vfa_ir::specs::Tokens::or_label))]
 fn or_label(kind: TokenKind, more: usize, rest: &[u8]) -> Piece
     ensures { as_piece result ≡ spec.or_label kind more rest.now }
 {

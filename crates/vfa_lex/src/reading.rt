@@ -6,7 +6,7 @@ ghost use Rattle.vfa_ir.specs.Tokens as spec;
 ghost use Rattle.vfa_lex.specs.Gaps.{Fill};
 
 use crate::bytes::{line_feed, line_feeds};
-use crate::pieces::{Piece, front_piece};
+use crate::pieces::{Piece, first_piece};
 use std::alloc::{AllocError, Global};
 use vfa_ir::Token;
 
@@ -27,7 +27,7 @@ pub fn token_at(bytes: &[u8], from: usize, line: u32) -> Option<Token>
     let mut line = line;
     while at < bytes.len() {
         let first = bytes[at];
-        match front_piece(first, &bytes[at + 1..]) {
+        match first_piece(first, &bytes[at + 1..]) {
             Piece::Token(kind, more) => {
                 return Some(Token {
                     kind,
@@ -45,7 +45,7 @@ pub fn token_at(bytes: &[u8], from: usize, line: u32) -> Option<Token>
     None
 }
 
-/// The line on which reading goes on behind a token: its own, and one more for each line feed in it, as a string may
+/// The line on which reading goes on after a token: its own, and one more for each line feed in it, as a string may
 /// have them.
 pub fn line_behind(bytes: &[u8], token: &Token) -> u32
     requires order { token.now.start ≤ token.now.end }

@@ -1,3 +1,5 @@
+//! Tests of the table of kinds and of whole texts.
+
 use super::*;
 use vfa_ir::{Token, TokenKind};
 
@@ -21,6 +23,13 @@ fn the_table_of_kinds(rt: HostRuntime) {
     assert!(rt; reads(b"add: ", TokenKind::Label, 0, 4, 1));
     assert!(rt; reads(b"\"a\": ", TokenKind::Label, 0, 4, 1));
     assert!(rt; reads(b"12: ", TokenKind::Label, 0, 3, 1));
+    assert!(rt; reads(b"\"5\": ", TokenKind::Label, 0, 4, 1));
+    assert!(rt; reads(b"@\"5\"(", TokenKind::Global, 0, 4, 1));
+    assert!(rt; reads(b"!5 !5", TokenKind::Meta, 0, 2, 1));
+    assert!(rt; reads(b"!-5\n", TokenKind::Meta, 0, 3, 1));
+    assert!(rt; reads(b"00\n", TokenKind::Number, 0, 2, 1));
+    assert!(rt; reads(b"i08 ", TokenKind::Word, 0, 3, 1));
+    assert!(rt; reads(b"musttail call", TokenKind::Word, 0, 8, 1));
     assert!(rt; reads(b"!dbg ", TokenKind::Meta, 0, 4, 1));
     assert!(rt; reads(b"! dbg", TokenKind::Mark, 0, 1, 1));
     assert!(rt; reads(b"#0abc", TokenKind::Group, 0, 2, 1));

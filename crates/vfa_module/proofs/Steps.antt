@@ -1,12 +1,13 @@
 -- Steps of the loops over a define's tokens and over the lines of a text.
-use Rattle.std.proofs.Common.{inl, inr, ◌≡◌, ℕ, zero, suc, ◌+◌, ◌-◌, ◌<◌, ◌≤◌, ◌==◌, ◌||◌, Bool, true, false, List, [], ◌∷◌, ◌++◌, append_assoc, Result, Ok, Err, nat_lt, not, cond, length, take, drop, get_or, Some, None, refl, sym, ap, add-one, ◌∙◌, arith, drop-cons, length-drop}
-use Rattle.std.proofs.lemmas.Bool.{cases_order}
+use Rattle.std.proofs.Common.{inl, inr, ◌≡◌, ℕ, zero, suc, ◌+◌, ◌-◌, ◌<◌, ◌≤◌, ◌==◌, ◌≢◌, ◌&&◌, ◌||◌, Bool, true, false, List, [], ◌∷◌, ◌++◌, append_assoc, Result, Ok, Err, nat_eq, nat_lt, codes, not, cond, length, take, drop, get_or, Some, None, refl, sym, subst, ap, add-one, ◌∙◌, arith, drop-cons, length-drop}
+use Rattle.std.proofs.lemmas.Bool.{cases_lt, cases_order, eqb-true, eqb-false, true≢false}
 use Rattle.std.proofs.lemmas.List.{drop-drop, get_or-drop}
 use Rattle.std.proofs.lemmas.List.Sums.{prefix_len_passes}
 use Rattle.vfa_ir.specs.declared.tokens.Token.{Token}
-use Rattle.std.specs.List.{AllByRecursion, position_or_len, prefix_len}
+use Rattle.std.specs.List.{AllByRecursion, position_or_len, prefix_len, starts_with}
 use Rattle.vfa_ir.proofs.Reading.{feeds_range}
-use Rattle.vfa_ir.specs.Tokens.{line_feed, line_feeds}
+use Rattle.vfa_ir.specs.Tokens.{is_blank, line_feed, line_feeds}
+use Rattle.vfa_module.specs.Defines.{AreApart, BeginsDefine, BeginsLine, HasMore, HasNoDefine, IsBrace, IsPart}
 use Rattle.vfa_module.specs.Split as spec
 use Rattle.vfa_module.specs.declared.items.Item.{Item}
 use Rattle.vfa_module.specs.declared.items.SplitFault.{SplitFault}
@@ -15,7 +16,7 @@ pub header_step :
     (text : List ℕ) (named : Bool) (parens : ℕ) (ts rest : List Token) (t : Token) → ts ≡ t ∷ rest →
     spec.opens_body named parens (spec.front_byte text t) ≡ false →
     spec.closing_of_define text named parens ts ≡
-    spec.closing_of_define text (named || spec.is_global t.kind) (spec.parens_behind parens (spec.front_byte text t)) rest
+    spec.closing_of_define text (named || spec.is_global t.kind) (spec.parens_after parens (spec.front_byte text t)) rest
 header_step text named parens ts rest t e h = rw (e, h) refl
 
 pub header_end :
@@ -28,7 +29,7 @@ pub body_step :
     (text : List ℕ) (braces : ℕ) (ts rest : List Token) (t : Token) → ts ≡ t ∷ rest →
     spec.closes_body braces (spec.front_byte text t) ≡ false →
     spec.closing_of_body text braces ts ≡
-    spec.closing_of_body text (spec.braces_behind braces (spec.front_byte text t)) rest
+    spec.closing_of_body text (spec.braces_after braces (spec.front_byte text t)) rest
 body_step text braces ts rest t e h = rw (e, h) refl
 
 pub body_end :
@@ -39,7 +40,7 @@ body_end text braces ts rest t e h = rw (e, h) refl
 -- the bytes of a line or a define are passed over
 defines-skip :
     (text : List ℕ) (skip place line : ℕ) (left : List ℕ) →
-    spec.defines_behind text skip place line left ≡ spec.defines_behind text 0 (place + skip) line (drop skip left)
+    spec.defines_after text skip place line left ≡ spec.defines_after text 0 (place + skip) line (drop skip left)
 defines-skip text zero place line [] = refl
 defines-skip text (suc skip) place line [] = refl
 defines-skip text zero place line (b ∷ left) = let at : place + 0 ≡ place = omega arith in rw at refl
@@ -49,7 +50,7 @@ defines-skip text (suc skip) place line (b ∷ left) =
 
 defines-next :
     (text : List ℕ) (at next line : ℕ) → at < next →
-    spec.defines_behind text (next - (at + 1)) (at + 1) line (drop (at + 1) text) ≡ spec.defines_from text next line
+    spec.defines_after text (next - (at + 1)) (at + 1) line (drop (at + 1) text) ≡ spec.defines_from text next line
 defines-next text at next line later =
     let on : at + 1 + (next - (at + 1)) ≡ next = omega arith in
     defines-skip text (next - (at + 1)) (at + 1) line (drop (at + 1) text) ∙ rw (drop-drop, on) refl
@@ -62,15 +63,15 @@ pub line_passed :
     spec.define_of_line text at ≡ None →
     spec.defines_from text at line ≡ spec.defines_from text (spec.next_line text at) (line + 1)
 line_passed text at line inside later none =
-    ap (spec.defines_behind text 0 at line) (front text at inside)
-    ∙ (rw (none, spec.defines_behind) refl ∙ defines-next text at (spec.next_line text at) (line + 1) later)
+    ap (spec.defines_after text 0 at line) (front text at inside)
+    ∙ (rw (none, spec.defines_after) refl ∙ defines-next text at (spec.next_line text at) (line + 1) later)
 
 at_define :
     (text : List ℕ) (at line start : ℕ) → at < length text → spec.define_of_line text at ≡ Some start →
     spec.defines_from text at line ≡
     spec.define_then text start line (spec.closing_brace text start line)
-    (λ t. spec.defines_behind text (spec.next_line text t.end - (at + 1)) (at + 1) (t.line + 1) (drop (at + 1) text))
-at_define text at line start inside some = ap (spec.defines_behind text 0 at line) (front text at inside) ∙ rw (some, spec.defines_behind) refl
+    (λ t. spec.defines_after text (spec.next_line text t.end - (at + 1)) (at + 1) (t.line + 1) (drop (at + 1) text))
+at_define text at line start inside some = ap (spec.defines_after text 0 at line) (front text at inside) ∙ rw (some, spec.defines_after) refl
 
 pub define_unclosed :
     (text : List ℕ) (at line start : ℕ) → at < length text → spec.define_of_line text at ≡ Some start →
@@ -125,11 +126,11 @@ all-append P [] ys c d = d
 all-append P (x ∷ xs) ys c d = (c.0, all-append P xs ys c.1 d)
 
 pub lines_are_parts :
-    (text : List ℕ) (from to : ℕ) → spec.HasNoDefine text from to →
-    AllByRecursion (spec.IsPart text) (spec.lines_between from to)
+    (text : List ℕ) (from to : ℕ) → HasNoDefine text from to →
+    AllByRecursion (IsPart text) (spec.lines_between from to)
 lines_are_parts text from to none = by_test (nat_lt from to)
   where
-    by_test : (t : Bool) → AllByRecursion (spec.IsPart text) (cond t (Item.Lines from to ∷ []) [])
+    by_test : (t : Bool) → AllByRecursion (IsPart text) (cond t (Item.Lines from to ∷ []) [])
     by_test true = (none, tt)
     by_test false = tt
 
@@ -224,22 +225,22 @@ next_feeds text at inside more =
 -- a brace that is found from a place on to which reading came is found from where reading began
 pub brace_sooner :
     (text : List ℕ) (from line at on : ℕ) (t : Token) → from ≤ at →
-    on + line_feeds (take from text) ≡ line + line_feeds (take at text) → spec.IsBrace text at on t →
-    spec.IsBrace text from line t
+    on + line_feeds (take from text) ≡ line + line_feeds (take at text) → IsBrace text at on t →
+    IsBrace text from line t
 brace_sooner text from line at on t later counted b =
-    let behind : at ≤ t.start = b.behind in
+    let behind : at ≤ t.start = b.after in
     let lines : t.line + line_feeds (take at text) ≡ on + line_feeds (take t.start text) = b.lines in
-    record { behind = omega arith; byte = b.byte; one = b.one; within = b.within; lines = omega arith }
+    record { after = omega arith; byte_is = b.byte_is; one = b.one; within = b.within; lines = omega arith }
 
 -- the brace itself ends no line
 pub brace_feeds :
-    (text : List ℕ) (from line : ℕ) (t : Token) → spec.IsBrace text from line t →
+    (text : List ℕ) (from line : ℕ) (t : Token) → IsBrace text from line t →
     line_feeds (take t.end text) ≡ line_feeds (take t.start text)
 brace_feeds text from line t b =
     let one : t.end - t.start ≡ 1 = (let end = b.one in omega arith) in
     let inside : t.start < length text = (let end = b.one in let within = b.within in omega arith) in
     let none : line_feeds (take (t.end - t.start) (drop t.start text)) ≡ 0 =
-    rw (one, front text t.start inside, b.byte) refl in
+    rw (one, front text t.start inside, b.byte_is) refl in
     let feeds = feeds_range text t.start t.end (let end = b.one in omega arith) in
     omega arith
 
@@ -269,70 +270,286 @@ no_line_inside text at q later inside feed =
     let passes = prefix_len_passes (λ c. not (c == 10)) (drop at text) (q - 1 - at) 0 short in
     is_no_feed (get_or text (q - 1) 0) (rw (get_or-drop, here) at passes) feed
 
-no_line_in_indent :
-    (text : List ℕ) (at start q : ℕ) → WordFound text at start → at < q → q < start → get_or text (q - 1) 0 ≡ 10 → ⊥
-no_line_in_indent text at start q w later inside feed =
-    let place : start ≡ at + spec.indent (drop at text) = w.place in
-    let here : at + (q - 1 - at) ≡ q - 1 = omega arith in
-    let passes = prefix_len_passes (λ b. b == 32 || b == 9) (drop at text) (q - 1 - at) 0 (omega arith) in
-    is_no_feed_of_indent (get_or text (q - 1) 0) (rw (get_or-drop, here) at passes) feed
+is_blank_no_feed : (b : ℕ) → spec.is_space_or_tab b ≡ true → b ≡ 10 → ⊥
+is_blank_no_feed b h e = is_no_feed_of_indent b h e
 
--- so far no line begins a define behind the last one
-abbrev pub NoDefine : List ℕ → ℕ → ℕ → Type 0
-NoDefine text from to =
-    (q : ℕ) → from ≤ q → q < to → spec.BeginsLine text q → spec.define_of_line text q ≡ None
+-- a line does not begin inside the blanks of another
+pub begins_no_later :
+    (text : List ℕ) (line start at : ℕ) → ((k : ℕ) → line ≤ k → k < start → spec.is_space_or_tab (get_or text k 0) ≡ true) →
+    line < at → at ≤ start → BeginsLine text at → ⊥
+begins_no_later text line start at blanks later inside (inl zero_at) = omega arith
+begins_no_later text line start at blanks later inside (inr feed) =
+    is_blank_no_feed (get_or text (at - 1) 0) (blanks (at - 1) (omega arith) (omega arith)) feed
+
+first_is_d : (b : ℕ) (rest : List ℕ) → spec.begins_define (b ∷ rest) ≡ true → b ≡ 100
+unfolding spec.begins_define
+first_is_d b rest word = go (100 == b) refl word
+  where
+    go : (t : Bool) → (100 == b) ≡ t → ((t && starts_with nat_eq rest (codes "efine")) && spec.has_blank 6 (b ∷ rest)) ≡ true → b ≡ 100
+    go true e h = sym (eqb-true 100 b e)
+    go false e h = absurd (cc)
+
+-- spaces and tabs up to the word are the indent
+indent_is :
+    (bs : List ℕ) (n : ℕ) → ((k : ℕ) → k < n → spec.is_space_or_tab (get_or bs k 0) ≡ true) →
+    spec.begins_define (drop n bs) ≡ true → spec.indent bs ≡ n
+unfolding spec.begins_define
+indent_is [] zero blanks word = refl
+indent_is [] (suc n) blanks word = absurd (cc)
+indent_is (b ∷ rest) zero blanks word =
+    let other : spec.is_space_or_tab b ≡ false = (let first = first_is_d b rest word in rw first refl) in rw other refl
+indent_is (b ∷ rest) (suc n) blanks word =
+    let here : spec.is_space_or_tab b ≡ true = blanks 0 (omega arith) in
+    let left : spec.indent rest ≡ n = indent_is rest n (λ k less. blanks (suc k) (omega arith)) word in
+    rw (here, left) (omega arith)
+
+pub word_of_line :
+    (text : List ℕ) (at start : ℕ) → at ≤ start →
+    ((k : ℕ) → at ≤ k → k < start → spec.is_space_or_tab (get_or text k 0) ≡ true) →
+    spec.begins_define (drop start text) ≡ true → spec.define_of_line text at ≡ Some start
+word_of_line text at start order blanks word =
+    let on : at + (start - at) ≡ start = omega arith in
+    let inside : (k : ℕ) → k < start - at → spec.is_space_or_tab (get_or (drop at text) k 0) ≡ true =
+    λ k less. (rw get_or-drop (blanks (at + k) (omega arith) (omega arith))) in
+    let long : spec.indent (drop at text) ≡ start - at = indent_is (drop at text) (start - at) inside (rw (drop-drop, on) word) in
+    rw (long, on, word) refl
+
+pub blanks_of :
+    (text : List ℕ) (at start : ℕ) → WordFound text at start → (k : ℕ) → at ≤ k → k < start →
+    spec.is_space_or_tab (get_or text k 0) ≡ true
+blanks_of text at start w k order less =
+    let place : start ≡ at + spec.indent (drop at text) = w.place in
+    let here : at + (k - at) ≡ k = omega arith in
+    let passes = prefix_len_passes spec.is_space_or_tab (drop at text) (k - at) 0 (omega arith) in
+    (rw (get_or-drop, here) at passes)
+
+pub begins_define_of :
+    (text : List ℕ) (at start : ℕ) → BeginsLine text at → spec.define_of_line text at ≡ Some start → BeginsDefine text start
+begins_define_of text at start line some =
+    let w = word_found text at start some in
+    let place : start ≡ at + spec.indent (drop at text) = w.place in
+    record {
+      line = at;
+      begins = line;
+      before = omega arith;
+      blanks = blanks_of text at start w;
+      word = w.word;
+    }
+
+-- the only line that a define begins on from one line up to the next is this one
+pub on_this_line :
+    (text : List ℕ) (at q : ℕ) → BeginsLine text at → at ≤ q → q < spec.next_line text at → BeginsDefine text q →
+    spec.define_of_line text at ≡ Some q
+on_this_line text at q line order inside d =
+    elim (cases_order d.line at) [
+      | inl same ↦ (let P : ℕ → Type 0 = λ n. (k : ℕ) → n ≤ k → k < q → spec.is_space_or_tab (get_or text k 0) ≡ true in
+          word_of_line text at q order (subst P same d.blanks) d.word)
+      | inr (inl sooner) ↦ absurd (begins_no_later text d.line q at d.blanks sooner order line)
+      | inr (inr later) ↦ absurd (later_fails later d.begins)
+    ]
+  where
+    later_fails : at < d.line → BeginsLine text d.line → ⊥
+    later_fails later (inl zero_at) = omega arith
+    later_fails later (inr feed) = let before = d.before in no_line_inside text at d.line later (omega arith) feed
 
 pub none_passed :
-    (text : List ℕ) (from at : ℕ) → NoDefine text from at → spec.define_of_line text at ≡ None →
-    NoDefine text from (spec.next_line text at)
-none_passed text from at before here q behind inside begins =
-    elim (cases_order q at) [
-      | inl same ↦ rw same here
-      | inr (inl sooner) ↦ before q behind sooner begins
-      | inr (inr later) ↦ absurd (later_fails later)
+    (text : List ℕ) (from at : ℕ) → BeginsLine text at → HasNoDefine text from at → spec.define_of_line text at ≡ None →
+    HasNoDefine text from (spec.next_line text at)
+none_passed text from at line before here q after inside d =
+    elim (cases_lt q at) [
+      | inl sooner ↦ before q after sooner d
+      | inr later ↦ (let some = on_this_line text at q line later inside d in absurd (cc))
     ]
-  where
-    later_fails : at < q → ⊥
-    later_fails later =
-        elim begins [ inl zero_at ↦ omega arith | inr feed ↦ no_line_inside text at q later inside feed ]
 
 pub none_before_word :
-    (text : List ℕ) (from at start : ℕ) → NoDefine text from at → spec.define_of_line text at ≡ Some start →
-    spec.HasNoDefine text from start
-none_before_word text from at start before here q behind inside begins =
-    elim (cases_order q at) [
-      | inl same ↦ inr (rw same here)
-      | inr (inl sooner) ↦ inl (before q behind sooner begins)
-      | inr (inr later) ↦ absurd (later_fails later)
+    (text : List ℕ) (from at start : ℕ) → BeginsLine text at → HasNoDefine text from at →
+    spec.define_of_line text at ≡ Some start → HasNoDefine text from start
+none_before_word text from at start line before here q after inside d =
+    elim (cases_lt q at) [
+      | inl sooner ↦ before q after sooner d
+      | inr later ↦ fails later
     ]
   where
-    later_fails : at < q → ⊥
-    later_fails later =
-        elim begins [
-          | inl zero_at ↦ omega arith
-          | inr feed ↦ no_line_in_indent text at start q (word_found text at start here) later inside feed
+    fails : at ≤ q → ⊥
+    fails order =
+        elim (cases_order d.line at) [
+          | inl same ↦
+              (let P : ℕ → Type 0 = λ n. (k : ℕ) → n ≤ k → k < q → spec.is_space_or_tab (get_or text k 0) ≡ true in
+              let some = word_of_line text at q order (subst P same d.blanks) d.word in
+              let same_word : q ≡ start = (cc) in
+              omega arith)
+          | inr (inl sooner) ↦ begins_no_later text d.line q at d.blanks sooner order line
+          | inr (inr later) ↦
+              (let ended = d.before in
+              begins_no_later text at start d.line (blanks_of text at start (word_found text at start here)) later (omega arith) d.begins)
         ]
 
 is_no_brace : (b : ℕ) → b ≡ 125 → b ≡ 10 → ⊥
 is_no_brace b h e = omega arith
 
-pub none_behind_brace :
-    (text : List ℕ) (from line : ℕ) (t : Token) → spec.IsBrace text from line t →
-    NoDefine text t.end (spec.next_line text t.end)
-none_behind_brace text from line t b q behind inside begins = absurd (fails begins)
+is_brace_no_blank : (b : ℕ) → b ≡ 125 → spec.is_space_or_tab b ≡ true → ⊥
+is_brace_no_blank b h e = grind arith
+
+pub none_after_brace :
+    (text : List ℕ) (from line : ℕ) (t : Token) → IsBrace text from line t →
+    HasNoDefine text t.end (spec.next_line text t.end)
+none_after_brace text from line t b q after inside d =
+    elim (cases_lt d.line t.end) [
+      | inl sooner ↦ (let one = b.one in
+          is_brace_no_blank (get_or text t.start 0) b.byte_is (d.blanks t.start (omega arith) (omega arith)))
+      | inr later ↦ fails later d.begins
+    ]
   where
-    brace_at : q ≡ t.end → q - 1 ≡ t.start
+    brace_at : d.line ≡ t.end → d.line - 1 ≡ t.start
     brace_at same = let one = b.one in omega arith
 
-    fails : spec.BeginsLine text q → ⊥
-    fails (inl zero_at) = let one = b.one in omega arith
-    fails (inr feed) =
-        elim (cases_order q t.end) [
-          | inl same ↦ is_no_brace (get_or text (q - 1) 0) (rw (brace_at same) b.byte) feed
+    fails : t.end ≤ d.line → BeginsLine text d.line → ⊥
+    fails later (inl zero_at) = let one = b.one in omega arith
+    fails later (inr feed) =
+        elim (cases_order d.line t.end) [
+          | inl same ↦ is_no_brace (get_or text (d.line - 1) 0) (rw (brace_at same) b.byte_is) feed
           | inr (inl sooner) ↦ omega arith
-          | inr (inr later) ↦ no_line_inside text t.end q later inside feed
+          | inr (inr more) ↦ (let before = d.before in no_line_inside text t.end d.line more (omega arith) feed)
         ]
 
 pub none_to_end :
-    (text : List ℕ) (from at to : ℕ) → to ≤ at → NoDefine text from at → spec.HasNoDefine text from to
-none_to_end text from at to ended before q behind inside begins = inl (before q behind (omega arith) begins)
+    (text : List ℕ) (from at to : ℕ) → to ≤ at → HasNoDefine text from at → HasNoDefine text from to
+none_to_end text from at to ended before q after inside = before q after (omega arith)
+
+-- the first line feed
+feed_at : (bs : List ℕ) → position_or_len spec.is_line_feed bs < length bs → get_or bs (position_or_len spec.is_line_feed bs) 0 ≡ 10
+feed_at [] inside = absurd (omega arith)
+feed_at (b ∷ rest) inside = by_test (b == 10) refl inside (feed_at rest)
+  where
+    by_test :
+        (t : Bool) → (b == 10) ≡ t → cond (not t) (1 + position_or_len spec.is_line_feed rest) 0 < suc (length rest) →
+        (position_or_len spec.is_line_feed rest < length rest → get_or rest (position_or_len spec.is_line_feed rest) 0 ≡ 10) →
+        get_or (b ∷ rest) (cond (not t) (1 + position_or_len spec.is_line_feed rest) 0) 0 ≡ 10
+    by_test true h inside left = eqb-true b 10 h
+    by_test false h inside left =
+        let one : 1 + position_or_len spec.is_line_feed rest ≡ suc (position_or_len spec.is_line_feed rest) = omega arith in
+        rw one (left (omega arith))
+
+feed_before :
+    (bs : List ℕ) → spec.line_bytes bs < length bs → (0 < spec.line_bytes bs) × (get_or bs (spec.line_bytes bs - 1) 0 ≡ 10)
+feed_before bs more = by_test (nat_lt (position_or_len spec.is_line_feed bs) (length bs)) refl more
+  where
+    by_test :
+        (t : Bool) → nat_lt (position_or_len spec.is_line_feed bs) (length bs) ≡ t →
+        (elim (cond t (Some (position_or_len spec.is_line_feed bs)) None) [ None ↦ length bs | Some n ↦ n + 1 ]) < length bs →
+        (0 < (elim (cond t (Some (position_or_len spec.is_line_feed bs)) None) [ None ↦ length bs | Some n ↦ n + 1 ]))
+        × (get_or bs ((elim (cond t (Some (position_or_len spec.is_line_feed bs)) None) [ None ↦ length bs | Some n ↦ n + 1 ]) - 1) 0 ≡ 10)
+    by_test true h more =
+        let at : position_or_len spec.is_line_feed bs + 1 - 1 ≡ position_or_len spec.is_line_feed bs = omega arith in
+        (omega arith, rw at (feed_at bs (grind arith)))
+    by_test false h more = absurd (omega arith)
+
+-- the next line is later
+pub next_after : (text : List ℕ) (at : ℕ) → at < length text → at < spec.next_line text at
+next_after text at inside =
+    let long : length (drop at text) ≡ length text - at = length-drop at text in
+    let some : 0 < spec.line_bytes (drop at text) = by_test (nat_lt (position_or_len spec.is_line_feed (drop at text)) (length (drop at text))) (omega arith) in
+    omega arith
+  where
+    by_test :
+        (t : Bool) → 0 < length (drop at text) →
+        0 < (elim (cond t (Some (position_or_len spec.is_line_feed (drop at text))) None) [ None ↦ length (drop at text) | Some n ↦ n + 1 ])
+    by_test true some = omega arith
+    by_test false some = some
+
+-- a line begins after each line feed
+pub next_begins :
+    (text : List ℕ) (at : ℕ) → at < length text → spec.next_line text at < length text → BeginsLine text (spec.next_line text at)
+next_begins text at inside more =
+    let long : length (drop at text) ≡ length text - at = length-drop at text in
+    let n : ℕ = spec.line_bytes (drop at text) in
+    let before = feed_before (drop at text) (omega arith) in
+    let some = before.0 in
+    let place : at + spec.line_bytes (drop at text) - 1 ≡ at + (spec.line_bytes (drop at text) - 1) = omega arith in
+    inr (rw (place, ← get_or-drop) before.1)
+
+-- What follows a define on its last line
+
+followed :
+    (blanks : List ℕ) (other : ℕ) (rest : List ℕ) →
+    AllByRecursion (λ b. (is_blank b ≡ true) × (b ≢ 10)) blanks → is_blank other ≡ false → other ≢ 59 →
+    spec.is_clear (blanks ++ other ∷ rest) ≡ false
+unfolding is_blank
+followed [] other rest all no_blank no_comment = grind arith
+followed (b ∷ blanks) other rest all no_blank no_comment =
+    let left : spec.is_clear (blanks ++ other ∷ rest) ≡ false = followed blanks other rest all.1 no_blank no_comment in
+    let blank = all.0.0 in
+    let no_feed = all.0.1 in
+    grind arith
+
+pub clear_has_none : (bs : List ℕ) → spec.is_clear bs ≡ true → ¬ HasMore bs
+clear_has_none bs clear more =
+    let unclear : spec.is_clear (more.blanks ++ more.other ∷ more.rest) ≡ false =
+    followed more.blanks more.other more.rest more.on_line more.no_blank more.no_comment in
+    let parts : bs ≡ more.blanks ++ more.other ∷ more.rest = more.parts in
+    true≢false (sym clear ∙ ap spec.is_clear parts ∙ unclear)
+
+pub unclear_has_more : (bs : List ℕ) → spec.is_clear bs ≡ false → HasMore bs
+unclear_has_more [] unclear = absurd (true≢false unclear)
+unclear_has_more (b ∷ rest) unclear =
+    by_tests (b == 10) (b == 59) (is_blank b) refl refl refl unclear (unclear_has_more rest)
+  where
+    by_tests :
+        (feed comment blank : Bool) → (b == 10) ≡ feed → (b == 59) ≡ comment → is_blank b ≡ blank →
+        ((feed || comment) || (blank && spec.is_clear rest)) ≡ false → (spec.is_clear rest ≡ false → HasMore rest) →
+        HasMore (b ∷ rest)
+    by_tests true comment blank e f g h left = absurd (cc)
+    by_tests false true blank e f g h left = absurd (cc)
+    by_tests false false true e f g h left =
+        let more = left h in
+        record {
+          blanks = b ∷ more.blanks;
+          other = more.other;
+          rest = more.rest;
+          parts = ap (λ l. b ∷ l) more.parts;
+          on_line = ((g, eqb-false b 10 e), more.on_line);
+          no_blank = more.no_blank;
+          no_comment = more.no_comment;
+        }
+    by_tests false false false e f g h left =
+        record { blanks = []; other = b; rest = rest; parts = refl; on_line = tt; no_blank = g; no_comment = eqb-false b 59 f }
+
+-- each item of lines has a define after it
+abbrev pub AreClosed : List Item → Type 0
+AreClosed [] = Unit {0}
+AreClosed (Item.Define _ _ _ ∷ rest) = AreClosed rest
+AreClosed (Item.Lines _ _ ∷ []) = ⊥
+AreClosed (Item.Lines _ _ ∷ Item.Lines _ _ ∷ rest) = ⊥
+AreClosed (Item.Lines _ _ ∷ Item.Define _ _ _ ∷ rest) = AreClosed rest
+
+pub closed_append : (xs ys : List Item) → AreClosed xs → AreClosed ys → AreClosed (xs ++ ys)
+closed_append [] ys c d = d
+closed_append (Item.Define _ _ _ ∷ xs) ys c d = closed_append xs ys c d
+closed_append (Item.Lines _ _ ∷ []) ys c d = absurd c
+closed_append (Item.Lines _ _ ∷ Item.Lines _ _ ∷ xs) ys c d = absurd c
+closed_append (Item.Lines _ _ ∷ Item.Define _ _ _ ∷ xs) ys c d = closed_append xs ys c d
+
+pub apart_append : (xs ys : List Item) → AreClosed xs → AreApart ys → AreApart (xs ++ ys)
+apart_append [] ys c d = d
+apart_append (Item.Define _ _ _ ∷ xs) ys c d = apart_append xs ys c d
+apart_append (Item.Lines _ _ ∷ []) ys c d = absurd c
+apart_append (Item.Lines _ _ ∷ Item.Lines _ _ ∷ xs) ys c d = absurd c
+apart_append (Item.Lines _ _ ∷ Item.Define _ _ _ ∷ xs) ys c d = apart_append xs ys c d
+
+-- the lines before a define, and the define
+pub closed_define :
+    (items : List Item) (from start end line : ℕ) → AreClosed items →
+    AreClosed ((items ++ spec.lines_between from start) ++ Item.Define start end line ∷ [])
+closed_define items from start end line closed =
+    rw append_assoc (closed_append items _ closed (by_test (nat_lt from start)))
+  where
+    by_test : (t : Bool) → AreClosed (cond t (Item.Lines from start ∷ []) [] ++ Item.Define start end line ∷ [])
+    by_test true = tt
+    by_test false = tt
+
+pub apart_lines : (items : List Item) (from to : ℕ) → AreClosed items → AreApart (items ++ spec.lines_between from to)
+apart_lines items from to closed = apart_append items _ closed (by_test (nat_lt from to))
+  where
+    by_test : (t : Bool) → AreApart (cond t (Item.Lines from to ∷ []) [])
+    by_test true = tt
+    by_test false = tt

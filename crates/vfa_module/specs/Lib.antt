@@ -1,1 +1,2 @@
+pub mod Defines
 pub mod Split

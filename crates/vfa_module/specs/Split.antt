@@ -1,17 +1,27 @@
--- The split of a module: the defines of its functions, and the bytes between them.
-use Rattle.std.specs.Prelude.{◌≡◌, ◌<◌, ◌≤◌, ◌⊎◌, IsSomeAnd, ℕ, zero, suc, ◌+◌, ◌-◌, ◌==◌, ◌&&◌, ◌||◌, Bool, true, false, nat_eq, nat_lt, List, [], ◌∷◌, ◌++◌, length, take, drop, codes, position, if◌then◌else◌, Option, Some, None, Result, Ok, Err, slice_get, slice_index}
+-- The split of a module, computed: the defines of its functions, and the bytes between them. `Defines` says the same in
+-- the words of the text.
+use Rattle.std.specs.Prelude.{◌≡◌, ◌<◌, ℕ, zero, suc, ◌+◌, ◌-◌, ◌==◌, ◌&&◌, ◌||◌, Bool, true, false, nat_eq, nat_lt, List, [], ◌∷◌, ◌++◌, length, drop, codes, position, if◌then◌else◌, Option, Some, None, Result, Ok, Err, slice_get, slice_index}
 use Rattle.std.specs.List.{prefix_len, starts_with}
-use Rattle.vfa_ir.specs.Tokens.{is_blank, line_feeds, tokens_from}
+use Rattle.std.specs.Str.{byte}
+use Rattle.vfa_ir.specs.Tokens.{is_blank, tokens_from}
 use Rattle.vfa_ir.specs.declared.tokens.Token.{Token}
 use Rattle.vfa_ir.specs.declared.tokens.TokenKind.{TokenKind}
 use Rattle.vfa_module.specs.declared.items.Item.{Item}
 use Rattle.vfa_module.specs.declared.items.SplitFault.{SplitFault}
 
+-- Bytes
+
+abbrev pub is_space_or_tab : ℕ → Bool
+is_space_or_tab b = b == byte " " || b == byte "\t"
+
+abbrev pub is_line_feed : ℕ → Bool
+is_line_feed b = b == byte "\n"
+
 -- Lines
 
 -- the spaces and tabs at the front
 abbrev pub indent : List ℕ → ℕ
-indent = prefix_len (λ b. b == 32 || b == 9)
+indent = prefix_len is_space_or_tab
 
 abbrev pub has_blank : ℕ → List ℕ → Bool
 has_blank at bs = elim (slice_get bs at) [ None ↦ false | Some b ↦ is_blank b ]
@@ -22,9 +32,9 @@ begins_define bs = starts_with nat_eq bs (codes "define") && has_blank 6 bs
 
 -- the bytes of the first line, its line feed with them
 abbrev pub line_bytes : List ℕ → ℕ
-line_bytes bs = elim (position (λ b. b == 10) bs) [ None ↦ length bs | Some n ↦ n + 1 ]
+line_bytes bs = elim (position is_line_feed bs) [ None ↦ length bs | Some n ↦ n + 1 ]
 
--- where the line behind the one of this offset begins
+-- where the line after the one of this offset begins
 abbrev pub next_line : List ℕ → ℕ → ℕ
 next_line text at = at + line_bytes (drop at text)
 
@@ -36,7 +46,7 @@ define_of_line text at =
 -- white space or a comment, up to the end of the line
 abbrev pub is_clear : List ℕ → Bool
 is_clear [] = true
-is_clear (b ∷ rest) = b == 10 || b == 59 || (is_blank b && is_clear rest)
+is_clear (b ∷ rest) = is_line_feed b || b == byte ";" || (is_blank b && is_clear rest)
 
 -- Braces
 
@@ -48,35 +58,36 @@ abbrev pub is_global : TokenKind → Bool
 is_global TokenKind.Global = true
 is_global _ = false
 
--- how many parentheses are open behind the byte; a closing one without an open one counts for nothing
-abbrev pub parens_behind : ℕ → ℕ → ℕ
-parens_behind parens b = if b == 40 then parens + 1 else (if b == 41 then parens - 1 else parens)
+-- how many parentheses are open after the byte; a closing one without an open one counts for nothing
+abbrev pub parens_after : ℕ → ℕ → ℕ
+parens_after parens b =
+    if b == byte "(" then parens + 1 else (if b == byte ")" then parens - 1 else parens)
 
--- how many inner braces are open behind the byte
-abbrev pub braces_behind : ℕ → ℕ → ℕ
-braces_behind braces b = if b == 123 then braces + 1 else (if b == 125 then braces - 1 else braces)
+-- how many inner braces are open after the byte
+abbrev pub braces_after : ℕ → ℕ → ℕ
+braces_after braces b = if b == byte "{" then braces + 1 else (if b == byte "}" then braces - 1 else braces)
 
--- behind a global name the first opening brace outside of parentheses opens the body
+-- after a global name the first opening brace outside of parentheses opens the body
 unfoldable pub opens_body : Bool → ℕ → ℕ → Bool
-opens_body named parens b = named && parens == 0 && b == 123
+opens_body named parens b = named && parens == 0 && b == byte "{"
 
 -- the first closing brace that has no inner one to close closes the body
 unfoldable pub closes_body : ℕ → ℕ → Bool
-closes_body braces b = braces == 0 && b == 125
+closes_body braces b = braces == 0 && b == byte "}"
 
 -- the brace that closes the body, from a place in the body on at which so many inner braces are open
 abbrev pub closing_of_body : List ℕ → ℕ → List Token → Option Token
 closing_of_body text braces [] = None
 closing_of_body text braces (t ∷ rest) =
     if closes_body braces (front_byte text t) then Some t
-    else closing_of_body text (braces_behind braces (front_byte text t)) rest
+    else closing_of_body text (braces_after braces (front_byte text t)) rest
 
--- the same from a place in the header on, behind a global name or not, inside so many parentheses
+-- the same from a place in the header on, after a global name or not, inside so many parentheses
 abbrev pub closing_of_define : List ℕ → Bool → ℕ → List Token → Option Token
 closing_of_define text named parens [] = None
 closing_of_define text named parens (t ∷ rest) =
     if opens_body named parens (front_byte text t) then closing_of_body text 0 rest
-    else closing_of_define text (named || is_global t.kind) (parens_behind parens (front_byte text t)) rest
+    else closing_of_define text (named || is_global t.kind) (parens_after parens (front_byte text t)) rest
 
 -- the brace that closes the define whose word stands at the offset, on the line
 abbrev pub closing_brace : List ℕ → ℕ → ℕ → Option Token
@@ -93,29 +104,29 @@ abbrev pub with_first : Extent → Result (List Extent) SplitFault → Result (L
 with_first d (Ok rest) = Ok (d ∷ rest)
 with_first d (Err fault) = Err fault
 
--- a define from the word at an offset to this brace, and what comes behind it; or the failure
+-- a define from the word at an offset to this brace, and what comes after it; or the failure
 abbrev pub define_then :
     List ℕ → ℕ → ℕ → Option Token → (Token → Result (List Extent) SplitFault) → Result (List Extent) SplitFault
-define_then text start line None behind = Err (SplitFault.Unclosed start)
-define_then text start line (Some t) behind =
-    if is_clear (drop t.end text) then with_first (record { start = start; end = t.end; line = line }) (behind t)
+define_then text start line None after = Err (SplitFault.Unclosed start)
+define_then text start line (Some t) after =
+    if is_clear (drop t.end text) then with_first (record { start = start; end = t.end; line = line }) (after t)
     else Err (SplitFault.BadLine t.line)
 
 -- The defines of a text from a place on, or the first failure. So many of the bytes that are left are passed over, to
 -- the beginning of the line of this number.
-abbrev pub defines_behind : List ℕ → ℕ → ℕ → ℕ → List ℕ → Result (List Extent) SplitFault
-defines_behind text skip place line [] = Ok []
-defines_behind text (suc skip) place line (_ ∷ left) = defines_behind text skip (place + 1) line left
-defines_behind text zero place line (_ ∷ left) =
+abbrev pub defines_after : List ℕ → ℕ → ℕ → ℕ → List ℕ → Result (List Extent) SplitFault
+defines_after text skip place line [] = Ok []
+defines_after text (suc skip) place line (_ ∷ left) = defines_after text skip (place + 1) line left
+defines_after text zero place line (_ ∷ left) =
     elim (define_of_line text place) [
-      | None ↦ defines_behind text (next_line text place - (place + 1)) (place + 1) (line + 1) left
+      | None ↦ defines_after text (next_line text place - (place + 1)) (place + 1) (line + 1) left
       | Some start ↦
           define_then text start line (closing_brace text start line)
-          (λ t. defines_behind text (next_line text t.end - (place + 1)) (place + 1) (t.line + 1) left)
+          (λ t. defines_after text (next_line text t.end - (place + 1)) (place + 1) (t.line + 1) left)
     ]
 
 abbrev pub defines_from : List ℕ → ℕ → ℕ → Result (List Extent) SplitFault
-defines_from text at line = defines_behind text 0 at line (drop at text)
+defines_from text at line = defines_after text 0 at line (drop at text)
 
 -- Items
 
@@ -134,12 +145,10 @@ abbrev pub split_of : List ℕ → Result (List Item) SplitFault
 split_of text =
     elim (defines_from text 0 1) [ Ok defines ↦ Ok (items_between 0 (length text) defines) | Err fault ↦ Err fault ]
 
--- want of memory, or this
+-- out of memory, or this
 abbrev pub MemoryOr : SplitFault → Type 0 → Type 0
 MemoryOr SplitFault.Memory P = Unit {0}
 MemoryOr _ P = P
-
--- What holds of the items
 
 abbrev pub start_of : Item → ℕ
 start_of (Item.Lines start _) = start
@@ -153,34 +162,3 @@ end_of (Item.Define _ end _) = end
 abbrev pub Cover : ℕ → ℕ → List Item → Type 0
 Cover from to [] = from ≡ to
 Cover from to (i ∷ rest) = (start_of i ≡ from) × (from < end_of i) × Cover (end_of i) to rest
-
--- A define from the one offset to the other: it begins at a word `define`, on the line that the line feeds before it
--- make; it ends with the brace that closes it, behind which its line is clear.
-pub record IsDefine (text : List ℕ) (start end line : ℕ) : Type 0 where
-  pub word : begins_define (drop start text) ≡ true
-  pub lines : line ≡ 1 + line_feeds (take start text)
-  pub closed : IsSomeAnd (closing_brace text start line) (λ t. t.end ≡ end)
-  pub brace : slice_index text (end - 1) ≡ 125
-  pub clear : is_clear (drop end text) ≡ true
-
--- a line begins at the offset
-abbrev pub BeginsLine : List ℕ → ℕ → Type 0
-BeginsLine text at = (at ≡ 0) ⊎ (slice_index text (at - 1) ≡ 10)
-
--- no line between two offsets begins a define, but for one whose word stands at the second
-abbrev pub HasNoDefine : List ℕ → ℕ → ℕ → Type 0
-HasNoDefine text start end =
-    (at : ℕ) → start ≤ at → at < end → BeginsLine text at →
-    (define_of_line text at ≡ None) ⊎ (define_of_line text at ≡ Some end)
-
-abbrev pub IsPart : List ℕ → Item → Type 0
-IsPart text (Item.Lines start end) = HasNoDefine text start end
-IsPart text (Item.Define start end line) = IsDefine text start end line
-
--- a closing brace that reading from the offset, which stands on the line, comes to
-pub record IsBrace (text : List ℕ) (from line : ℕ) (t : Token) : Type 0 where
-  pub behind : from ≤ t.start
-  pub byte : slice_index text t.start ≡ 125
-  pub one : t.end ≡ t.start + 1
-  pub within : t.end ≤ length text
-  pub lines : t.line + line_feeds (take from text) ≡ line + line_feeds (take t.start text)

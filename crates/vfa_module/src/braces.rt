@@ -2,6 +2,7 @@
 
 ghost use Rattle.std.specs.Prelude.{◌≡◌, ◌<◌, ◌≤◌, ◌+◌, ◌^◌, length, take, None, IfSome, MatchOption, ◌||◌};
 ghost use Rattle.vfa_ir.specs.Tokens as tokens;
+ghost use Rattle.vfa_module.specs.Defines.{IsBrace};
 ghost use Rattle.vfa_module.specs.Split as spec;
 
 use vfa_ir::{Token, TokenKind};
@@ -19,7 +20,7 @@ pub(crate) fn closing_brace(bytes: &[u8], start: usize, line: u32) -> Option<Tok
     requires within { start ≤ length bytes.now }
     requires lines { line + length bytes.now < 2 ^ 32 + start }
     ensures brace { result ≡ spec.closing_brace bytes.now start line }
-    ensures found { IfSome result (λ t. spec.IsBrace bytes.now start line t) }
+    ensures found { IfSome result (λ t. IsBrace bytes.now start line t) }
     ensures bound { IfSome result (λ t. t.line + start ≤ line + t.start) }
 {
     match body(bytes, start, line) {
@@ -28,7 +29,7 @@ pub(crate) fn closing_brace(bytes: &[u8], start: usize, line: u32) -> Option<Tok
     }
 }
 
-/// The place behind the brace that opens the body.
+/// The place after the brace that opens the body.
 fn body(bytes: &[u8], start: usize, line: u32) -> Option<Place>
     requires within { start ≤ length bytes.now }
     requires lines { line + length bytes.now < 2 ^ 32 + start }
@@ -53,7 +54,7 @@ fn body(bytes: &[u8], start: usize, line: u32) -> Option<Place>
             return Some(Place { at, line: on });
         }
         named = is_named(named, token.kind);
-        parens = parens_behind(parens, first);
+        parens = parens_after(parens, first);
     }
     None
 }
@@ -72,17 +73,17 @@ fn closes_body(braces: usize, b: u8) -> bool
     braces == 0 && b == b'}'
 }
 
-/// Whether the define is named behind a token of this kind.
+/// Whether the define is named after a token of this kind.
 fn is_named(before: bool, kind: TokenKind) -> bool
     ensures { result ≡ (before || spec.is_global kind) }
 {
     before || matches!(kind, TokenKind::Global)
 }
 
-/// How many parentheses are open behind the byte; a closing one without an open one counts for nothing.
-fn parens_behind(parens: usize, b: u8) -> usize
+/// How many parentheses are open after the byte; a closing one without an open one counts for nothing.
+fn parens_after(parens: usize, b: u8) -> usize
     requires { parens + 1 < 2 ^ 64 }
-    ensures count { result ≡ spec.parens_behind parens b }
+    ensures count { result ≡ spec.parens_after parens b }
     ensures bound { result ≤ parens + 1 }
 {
     match b {
@@ -92,10 +93,10 @@ fn parens_behind(parens: usize, b: u8) -> usize
     }
 }
 
-/// How many inner braces are open behind the byte.
-fn braces_behind(braces: usize, b: u8) -> usize
+/// How many inner braces are open after the byte.
+fn braces_after(braces: usize, b: u8) -> usize
     requires { braces + 1 < 2 ^ 64 }
-    ensures count { result ≡ spec.braces_behind braces b }
+    ensures count { result ≡ spec.braces_after braces b }
     ensures bound { result ≤ braces + 1 }
 {
     match b {
@@ -110,7 +111,7 @@ fn closing_of_body(bytes: &[u8], place: Place) -> Option<Token>
     requires within { place.at ≤ length bytes.now }
     requires lines { place.line + length bytes.now < 2 ^ 32 + place.at }
     ensures brace { result ≡ spec.closing_of_body bytes.now 0 (tokens.tokens_from bytes.now place.at place.line) }
-    ensures found { IfSome result (λ t. spec.IsBrace bytes.now place.at place.line t) }
+    ensures found { IfSome result (λ t. IsBrace bytes.now place.at place.line t) }
     ensures bound { IfSome result (λ t. t.line + place.at ≤ place.line + t.start) }
 {
     let mut at = place.at;
@@ -123,7 +124,7 @@ fn closing_of_body(bytes: &[u8], place: Place) -> Option<Token>
         if closes_body(braces, first) {
             return Some(token);
         }
-        braces = braces_behind(braces, first);
+        braces = braces_after(braces, first);
     }
     None
 }

@@ -13,14 +13,14 @@ pub enum Item {
     Lines {
         /// The offset of the first byte.
         start: usize,
-        /// The offset behind the last byte.
+        /// The offset after the last byte.
         end: usize,
     },
     /// A function, from the word `define` to the brace that closes its body.
     Define {
         /// The offset of the word `define`.
         start: usize,
-        /// The offset behind the closing brace.
+        /// The offset after the closing brace.
         end: usize,
         /// The line of the word, counted from 1.
         line: u32,

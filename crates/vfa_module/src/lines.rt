@@ -1,8 +1,9 @@
 //! Lines, and the word that begins a define.
 
 ghost use Rattle.std.specs.Prelude.{◌≡◌, ◌<◌, ◌≤◌, ◌+◌, ◌==◌, length, position, IfSome};
-ghost use Rattle.vfa_ir.specs.Tokens as tokens;
 ghost use Rattle.vfa_module.specs.Split as spec;
+
+use vfa_ir::is_blank;
 
 /// How many spaces and tabs stand at the front.
 fn indent(bytes: &[u8]) -> usize
@@ -23,7 +24,6 @@ fn begins_define(bytes: &[u8]) -> bool
     bytes.starts_with(b"define") && is_blank_at(bytes, 6)
 }
 
-#[tactic(auto, unfolding(vfa_ir::specs::Tokens::is_blank))]
 fn is_blank_at(bytes: &[u8], at: usize) -> bool
     ensures { result ≡ spec.has_blank at bytes.now }
 {
@@ -31,13 +31,6 @@ fn is_blank_at(bytes: &[u8], at: usize) -> bool
         Some(b) => is_blank(*b),
         None => false,
     }
-}
-
-#[tactic(auto, unfolding(vfa_ir::specs::Tokens::is_blank))]
-fn is_blank(b: u8) -> bool
-    ensures { result ≡ tokens.is_blank b }
-{
-    b == b' ' || b == b'\t' || b == b'\r' || b == b'\n'
 }
 
 /// The offset of the word `define` where the line that begins at this offset begins one.
@@ -54,12 +47,12 @@ pub(crate) fn define_of_line(bytes: &[u8], at: usize) -> Option<usize>
     }
 }
 
-/// Where the line behind the one of this offset begins.
+/// Where the line after the one of this offset begins.
 pub(crate) fn next_line(bytes: &[u8], at: usize) -> usize
     requires { at ≤ length bytes.now }
     ensures next { result ≡ spec.next_line bytes.now at }
     ensures within { result ≤ length bytes.now }
-    ensures behind { at ≤ result }
+    ensures order { at ≤ result }
     ensures later { at < length bytes.now → at < result }
 {
     at + line_bytes(&bytes[at..])
@@ -77,7 +70,7 @@ fn line_bytes(bytes: &[u8]) -> usize
 }
 
 fn line_feed(bytes: &[u8]) -> Option<usize>
-    ensures place { result ≡ position (λ b. b == 10) bytes.now }
+    ensures place { result ≡ position spec.is_line_feed bytes.now }
     ensures within { IfSome result (λ n. n < length bytes.now) }
 {
     bytes.iter().position(|b| *b == b'\n')

@@ -2,6 +2,7 @@
 
 ghost use Rattle.std.specs.Prelude.{◌≡◌, ◌≤◌, ◌++◌, length, Ok, Err, IfOk, IfErr};
 ghost use Rattle.std.specs.List.{AllByRecursion};
+ghost use Rattle.vfa_module.specs.Defines.{AreApart, Fails, IsPart};
 ghost use Rattle.vfa_module.specs.Split as spec;
 
 use crate::braces::closing_brace;
@@ -11,12 +12,12 @@ use std::alloc::{AllocError, Global};
 
 /// Splits a module's text into its defines and the lines between them. The items have the bytes of the text in order.
 ///
-/// A line whose first word is `define`, with white space behind it, begins a define. Behind the first global name the
+/// A line whose first word is `define`, with white space after it, begins a define. After the first global name the
 /// first `{` outside of parentheses opens the body, and the `}` that matches it ends the define. The rest of that
 /// brace's line is white space or a comment.
 ///
 /// The first failure in text order decides. `Unclosed(n)` comes exactly where the define at offset `n` has no such end
-/// before the text ends, `BadLine(n)` exactly where something else stands behind the brace that ends a define, on line
+/// before the text ends, `BadLine(n)` exactly where something else follows the brace that ends a define, on line
 /// `n`, the brace's own.
 ///
 /// `source_filename = "a"`, a line feed, `define i8 @f() { ret i8 0 }` and a line feed give the first line, the define
@@ -26,7 +27,9 @@ pub fn split(alloc: Global, bytes: &[u8]) -> Result<Vec<Item>, SplitFault>
     ensures items { IfOk result (λ items. spec.split_of bytes.now ≡ Ok items.items) }
     ensures fault { IfErr result (λ fault. spec.MemoryOr fault (spec.split_of bytes.now ≡ Err fault)) }
     ensures cover { IfOk result (λ items. spec.Cover 0 (length bytes.now) items.items) }
-    ensures parts { IfOk result (λ items. AllByRecursion (spec.IsPart bytes.now) items.items) }
+    ensures parts { IfOk result (λ items. AllByRecursion (IsPart bytes.now) items.items) }
+    ensures apart { IfOk result (λ items. AreApart items.items) }
+    ensures cause { IfErr result (λ fault. Fails bytes.now fault) }
 {
     let mut items = Vec::new(alloc);
     let mut copied = 0;

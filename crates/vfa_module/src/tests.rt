@@ -1,3 +1,5 @@
+//! Tests of whole modules, of their failures and of each prefix of a define.
+
 use super::*;
 use std::alloc::Global;
 
@@ -21,11 +23,47 @@ fn fails(alloc: Global, text: &[u8], want: SplitFault) -> bool {
     }
 }
 
-const MASKS: &[u8] =
-    b"define i8 @f(i8 %x) {\nentry:\n  %a = and i8 %x, 15\n  %b = and i8 %a, -16\n  ret i8 %b\n}\n";
+const MASKS: &[u8] = b"define i8 @f(i8 %x) {
+entry:
+  %a = and i8 %x, 15
+  %b = and i8 %a, -16
+  ret i8 %b
+}
+";
 
-const MODULE: &[u8] =
-    b"; ModuleID = 'a.c'\nsource_filename = \"a.c\"\ntarget datalayout = \"e-m:e-i64:64\"\ntarget triple = \"x86_64-unknown-linux-gnu\"\n\n; Function Attrs: nounwind\ndefine dso_local noundef i32 @f(i32 noundef %0) local_unnamed_addr #0 {\n  %2 = and i32 %0, 255\n  %3 = icmp ult i32 %2, 256\n  br i1 %3, label %4, label %6\n\n4:                                                ; preds = %1\n  %5 = add nsw i32 %2, 1\n  br label %8\n\n6:                                                ; preds = %1\n  %7 = sub i32 0, %0\n  br label %8\n\n8:                                                ; preds = %6, %4\n  %9 = phi i32 [ %5, %4 ], [ %7, %6 ]\n  ret i32 %9\n}\n\ndefine dso_local i32 @g(ptr noundef %0) #0 {\n  %2 = load i32, ptr %0, align 4\n  ret i32 %2\n}\n\nattributes #0 = { nounwind }\n!llvm.ident = !{!0}\n!0 = !{!\"clang\"}\n";
+const MODULE: &[u8] = b"; ModuleID = 'a.c'
+source_filename = \"a.c\"
+target datalayout = \"e-m:e-i64:64\"
+target triple = \"x86_64-unknown-linux-gnu\"
+
+; Function Attrs: nounwind
+define dso_local noundef i32 @f(i32 noundef %0) local_unnamed_addr #0 {
+  %2 = and i32 %0, 255
+  %3 = icmp ult i32 %2, 256
+  br i1 %3, label %4, label %6
+
+4:                                                ; preds = %1
+  %5 = add nsw i32 %2, 1
+  br label %8
+
+6:                                                ; preds = %1
+  %7 = sub i32 0, %0
+  br label %8
+
+8:                                                ; preds = %6, %4
+  %9 = phi i32 [ %5, %4 ], [ %7, %6 ]
+  ret i32 %9
+}
+
+define dso_local i32 @g(ptr noundef %0) #0 {
+  %2 = load i32, ptr %0, align 4
+  ret i32 %2
+}
+
+attributes #0 = { nounwind }
+!llvm.ident = !{!0}
+!0 = !{!\"clang\"}
+";
 
 #[test]
 fn texts_without_a_define(rt: HostRuntime) {
@@ -84,6 +122,13 @@ fn the_first_failure(rt: HostRuntime) {
     assert!(rt;
         fails(
             rt.alloc(),
+            b"define i8 @f(i8 %x) {\n  ret i8 %x\n",
+            SplitFault::Unclosed(0)
+        )
+    );
+    assert!(rt;
+        fails(
+            rt.alloc(),
             b"define i8 @f(i8 %x) {\n  ret i8 %x\n} x\n",
             SplitFault::BadLine(3)
         )
@@ -98,7 +143,7 @@ fn the_first_failure(rt: HostRuntime) {
 }
 
 #[test]
-fn each_front_of_a_text(rt: HostRuntime) {
+fn each_prefix_of_a_text(rt: HostRuntime) {
     for k in 1..7 {
         assert!(rt; splits(rt.alloc(), &MASKS[..k], &[Item::Lines { start: 0, end: k }]));
     }
@@ -153,8 +198,16 @@ fn open_parentheses_by_the_hundred_thousand(rt: HostRuntime) {
     assert!(rt; fails(rt.alloc(), text.as_slice(), SplitFault::Unclosed(0)));
 }
 
-const HALF: &[u8] =
-    b"define i8 @half(i1 %c, i8 %x) {\nentry:\n  br i1 %c, label %l, label %r\nl:\n  %v = add i8 %x, 1\n  br label %r\nr:\n  ret i8 %v\n}\n";
+const HALF: &[u8] = b"define i8 @half(i1 %c, i8 %x) {
+entry:
+  br i1 %c, label %l, label %r
+l:
+  %v = add i8 %x, 1
+  br label %r
+r:
+  ret i8 %v
+}
+";
 
 #[test]
 fn a_define_of_three_blocks(rt: HostRuntime) {

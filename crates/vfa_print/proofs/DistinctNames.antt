@@ -34,10 +34,6 @@ among_none n (x ∷ xs) h = go (bytes_eq n x) h (among_none n xs)
     go true e again = absurd (true≢false e)
     go false e again = let k = again e in omega arith
 
-one_if_most : (b : Bool) → one_if b ≤ 1
-one_if_most true = omega arith
-one_if_most false = omega arith
-
 -- a name more that does not stand there yet
 seen_more : (seen : List (List ℕ)) (name : List ℕ) → is_among name seen ≡ false → ((n : List ℕ) → occurs n seen ≤ 1) → (n : List ℕ) → occurs n (name ∷ seen) ≤ 1
 seen_more seen name new once n = go (bytes_eq n name) refl

@@ -1,12 +1,19 @@
 -- Tokens written one list after the other, and what they write.
-use Rattle.std.proofs.Common.{◌≡◌, ℕ, List, [], ◌∷◌, ◌++◌, false, refl, ap, append_assoc, append-nil, sym, ◌∙◌, Result, Ok, Err, IfOk}
-use Rattle.vfa_ir.specs.Lexemes.{Lexeme}
+use Rattle.std.proofs.Common.{◌≡◌, ℕ, List, [], ◌∷◌, ◌++◌, map, false, refl, ap, append_assoc, append-nil, sym, ◌∙◌, Result, Ok, Err, IfOk}
+use Rattle.vfa_ir.specs.Lexemes.{Lexeme, word}
 use Rattle.vfa_print.specs.Layout.{blank_between, takes_blank_before, takes_blank_behind, lexeme_text, written, text_line, line_feed}
 use Rattle.vfa_print.specs.Writing.{Draft, with_token, with_tokens, with_bytes}
 
 pub with_tokens_append : (d : Draft) (xs ys : List Lexeme) → with_tokens d (xs ++ ys) ≡ with_tokens (with_tokens d xs) ys
 with_tokens_append d [] ys = refl
 with_tokens_append d (x ∷ xs) ys = with_tokens_append (with_token d x) xs ys
+
+-- the same of words
+pub words_append :
+    (d : Draft) (xs ys : List (List ℕ)) →
+    with_tokens d (map word (xs ++ ys)) ≡ with_tokens (with_tokens d (map word xs)) (map word ys)
+words_append d [] ys = refl
+words_append d (x ∷ xs) ys = words_append (with_token d (word x)) xs ys
 
 pub text_of_tokens : (d : Draft) (ls : List Lexeme) → (with_tokens d ls).text ≡ d.text ++ written d.behind ls
 unfolding with_token

@@ -51,3 +51,9 @@ module _ {X : Type 0} (P : X → Type 0) where
   given_at g [] k x h e = cc
   given_at g (y ∷ ys) zero x h e = cons_first (g y) (filter_map g ys) x e h
   given_at g (y ∷ ys) (suc k) x h e = given_at g ys k x (cons_rest (g y) (filter_map g ys) h) e
+
+  -- of the element at a place
+  pub each_at : (xs : List X) (k : ℕ) (x : X) → AllByRecursion P xs → slice_get xs k ≡ Some x → P x
+  each_at [] k x h e = cc
+  each_at (y ∷ xs) zero x h e = let same : y ≡ x = cc in subst P same h.0
+  each_at (y ∷ xs) (suc k) x h e = each_at xs k x h.1 e

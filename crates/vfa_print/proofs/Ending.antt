@@ -12,7 +12,7 @@ abbrev pub ends_token : List ℕ → Bool
 ends_token [] = true
 ends_token (b ∷ _) = not (is_run_byte b || b == 58)
 
--- A piece that these bytes behind its first decide alone: a comment with an end, or a token that is neither unknown
+-- A piece that the bytes after its first decide alone: a comment with an end, or a token that is neither unknown
 -- nor begun by `!`.
 abbrev pub is_firm : ℕ → List ℕ → Piece → Bool
 is_firm b front (gap more) = nat_lt more (length front) || is_blank b

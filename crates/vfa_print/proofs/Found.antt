@@ -86,7 +86,7 @@ lexemes_behind zero line front (b ∷ bs) =
 pub lexemes_found : (bs : List ℕ) → lexemes bs (tokens_of bs) ≡ found 0 bs
 lexemes_found bs = lexemes_behind 0 1 [] bs
 
--- Text that reads as these lexemes before this rest, at each place and line, and behind which the rest is read.
+-- Text that reads as these lexemes before this rest, at each place and line, and after which the rest is read.
 pub record Gives (front rest : List ℕ) (ls : List Lexeme) : Type 0 where
   pub found : found 0 (front ++ rest) ≡ ls ++ found 0 rest
   pub behind :
@@ -104,7 +104,7 @@ pub same_place :
     (p q l m : ℕ) (bs : List ℕ) → p ≡ q → l ≡ m → tokens_behind 0 p l bs ≡ tokens_behind 0 q m bs
 same_place p q l m bs e f = rw (e, f) refl
 
--- behind the bytes of a piece
+-- after the bytes of a piece
 pub tokens_pass :
     (place line b : ℕ) (more rest : List ℕ) →
     tokens_behind (length more) (place + 1) (line + line_feed b) (more ++ rest)

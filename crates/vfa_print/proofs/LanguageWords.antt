@@ -9,7 +9,7 @@ use Rattle.vfa_ir.specs.declared.operations.Cast.{Cast}
 use Rattle.vfa_ir.specs.declared.operations.Pred.{Pred}
 use Rattle.vfa_ir.specs.Grammar.{IsWidth}
 use Rattle.vfa_ir.specs.Tokens.{is_digit, is_letter, is_run_byte}
-use Rattle.vfa_ir.specs.Words.{is_among, is_number, type_word, bin_word, cast_word, pred_word, lead_words, parameter_words, flags_of}
+use Rattle.vfa_ir.specs.Words.{is_among, is_number, type_word, bin_word, cast_word, pred_word, lead_words, parameter_words, call_words, flags_of, cast_flags_of}
 use Rattle.vfa_print.proofs.Lexed.{IsRunWord}
 use Rattle.vfa_print.proofs.SignedTexts.{all_digits}
 
@@ -56,6 +56,13 @@ parameter_test = refl
 pub parameter_run : (text : List ℕ) → is_among text parameter_words ≡ true → IsRunWord text
 parameter_run text e = among_run text parameter_words e parameter_test
 
+call_test : list_all is_run_word call_words ≡ true
+unfolding is_run_byte is_letter is_digit
+call_test = refl
+
+pub call_run : (text : List ℕ) → is_among text call_words ≡ true → IsRunWord text
+call_run text e = among_run text call_words e call_test
+
 flags_test : (bin : Bin) → list_all is_run_word (flags_of bin) ≡ true
 unfolding is_run_byte is_letter is_digit
 flags_test Bin.Add = refl
@@ -74,6 +81,15 @@ flags_test Bin.Xor = refl
 
 pub flag_run : (bin : Bin) (text : List ℕ) → is_among text (flags_of bin) ≡ true → IsRunWord text
 flag_run bin text e = among_run text (flags_of bin) e (flags_test bin)
+
+cast_flags_test : (cast : Cast) → list_all is_run_word (cast_flags_of cast) ≡ true
+unfolding is_run_byte is_letter is_digit
+cast_flags_test Cast.Zext = refl
+cast_flags_test Cast.Sext = refl
+cast_flags_test Cast.Trunc = refl
+
+pub cast_flag_run : (cast : Cast) (text : List ℕ) → is_among text (cast_flags_of cast) ≡ true → IsRunWord text
+cast_flag_run cast text e = among_run text (cast_flags_of cast) e (cast_flags_test cast)
 
 bin_test : (bin : Bin) → is_run_word (bin_word bin) ≡ true
 unfolding is_run_byte is_letter is_digit
@@ -122,7 +138,7 @@ cast_run cast = run_word (cast_word cast) (cast_test cast)
 -- words that stand in one production
 abbrev pub fixed_words : List (List ℕ)
 fixed_words = codes "define" ∷ codes "true" ∷ codes "false" ∷ codes "poison" ∷ codes "label" ∷ codes "phi" ∷ codes "call"
-    ∷ codes "icmp" ∷ codes "select" ∷ codes "to" ∷ codes "freeze" ∷ codes "extractvalue" ∷ codes "void" ∷ codes "ret"
+    ∷ codes "icmp" ∷ codes "samesign" ∷ codes "select" ∷ codes "to" ∷ codes "freeze" ∷ codes "extractvalue" ∷ codes "void" ∷ codes "ret"
     ∷ codes "br" ∷ codes "switch" ∷ codes "unreachable" ∷ []
 
 fixed_test : list_all is_run_word fixed_words ≡ true

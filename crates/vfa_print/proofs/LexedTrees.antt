@@ -1,8 +1,10 @@
 -- Each token of the tree of a printable function is read again as it is, production by production.
-use Rattle.std.proofs.Common.{◌≡◌, ℕ, suc, ◌<◌, ◌≤◌, ◌^◌, ◌==◌, ◌&&◌, Bool, true, false, cond, is_none, List, [], ◌∷◌, ◌++◌, ◌+◌, length, map, flat_map, All, IsTrue, Option, Some, None, option_map, codes, decimal, refl, arith}
+use Rattle.std.proofs.Common.{◌≡◌, ℕ, suc, ◌<◌, ◌≤◌, ◌^◌, ◌==◌, ◌&&◌, Bool, true, false, cond, is_none, List, [], ◌∷◌, ◌++◌, ◌+◌, length, map, flat_map, All, IsTrue, Option, Some, None, option_map, slice_get, codes, decimal, refl, arith}
 use Rattle.std.specs.List.{AllByRecursion, join_by}
 use Rattle.std.proofs.lemmas.List.Elements.{All-from_recursion, recursion_from_All}
 use Rattle.vfa_ir.specs.declared.functions.Block.{Block}
+use Rattle.vfa_ir.specs.declared.functions.CallArg.{CallArg}
+use Rattle.vfa_ir.specs.declared.functions.CallOp.{CallOp}
 use Rattle.vfa_ir.specs.declared.functions.Function.{Function}
 use Rattle.vfa_ir.specs.declared.functions.Inst.{Inst}
 use Rattle.vfa_ir.specs.declared.functions.Param.{Param}
@@ -10,6 +12,8 @@ use Rattle.vfa_ir.specs.declared.functions.Phi.{Phi}
 use Rattle.vfa_ir.specs.declared.functions.Term.{Term}
 use Rattle.vfa_ir.specs.declared.operations.Bin.{Bin}
 use Rattle.vfa_ir.specs.declared.operations.BlockId.{BlockId}
+use Rattle.vfa_ir.specs.declared.operations.Cast.{Cast}
+use Rattle.vfa_ir.specs.declared.operations.CastFlags.{CastFlags}
 use Rattle.vfa_ir.specs.declared.operations.Flags.{Flags}
 use Rattle.vfa_ir.specs.declared.operations.Fun1.{Fun1}
 use Rattle.vfa_ir.specs.declared.operations.Op.{Op}
@@ -17,23 +21,21 @@ use Rattle.vfa_ir.specs.declared.operations.Operand.{Operand}
 use Rattle.vfa_ir.specs.declared.operations.ValueId.{ValueId}
 use Rattle.vfa_ir.specs.declared.syntax.BasicBlock.{BasicBlock}
 use Rattle.vfa_ir.specs.declared.syntax.Operation.{Operation}
-use Rattle.vfa_ir.specs.declared.syntax.Line.{Line}
 use Rattle.vfa_ir.specs.declared.syntax.Literal.{Literal}
-use Rattle.vfa_ir.specs.declared.syntax.PhiPart.{PhiPart}
-use Rattle.vfa_ir.specs.Grammar.{IsWidth, FitsLiteral}
+use Rattle.vfa_ir.specs.Grammar.{IsWidth, FitsLiteral, FitsResultType}
 use Rattle.vfa_ir.specs.Lexemes.{Lexeme, local, number, word}
-use Rattle.vfa_ir.specs.Printable.{IsPrintable, IsOperand, IsBlock, AreOperands, HasItsFlags, PrintableOp, PrintableInst, PrintablePhi, PrintableTerm, PrintableBlock, inst_ids, block_ids}
+use Rattle.vfa_ir.specs.Printable.{IsPrintable, IsOperand, IsBlock, AreOperands, HasItsCastFlags, HasItsFlags, PrintableArgument, PrintableCall, PrintableOp, PrintableInst, PrintablePhi, PrintableTerm, PrintableBlock, block_call_places, block_ids, call_place, inst_ids}
 use Rattle.vfa_ir.specs.Resolution.{Scope}
 use Rattle.vfa_ir.specs.Spelling as spell
 use Rattle.vfa_ir.specs.Spelling.{open_round, close_round, open_square, close_square, comma, equals}
 use Rattle.vfa_ir.specs.Tokens.{is_bracket}
-use Rattle.vfa_ir.specs.Words.{is_among, lead_words, parameter_words, fun1_word, fun2_word, over_word, callee}
-use Rattle.vfa_print.specs.Trees.{name_at, block_name_at, operand_tree, literal_tree, flag_words, bare_call, strict_tree, op_tree, inst_tree, entry_tree, phi_tree, case_tree, term_tree, label_tree, lines_tree, block_tree, blocks_tree, parameter_tree, width_at, tree_with}
-use Rattle.vfa_print.proofs.EachElement.{each_append, each_weaker, each_parts, each_mapped, each_given}
-use Rattle.vfa_print.proofs.FittingTrees.{one_bit, IsFlagOf, flags_known}
-use Rattle.vfa_print.proofs.LanguageWords.{fixed_run, bin_run, pred_run, cast_run, flag_run, lead_run, parameter_run, type_run}
+use Rattle.vfa_ir.specs.Words.{is_among, call_words, cast_flags_of, flags_of, lead_words, parameter_words, fun1_word, fun2_word, over_word, callee}
+use Rattle.vfa_print.specs.Trees.{name_at, block_name_at, operand_tree, literal_tree, flag_words, cast_flag_words, bare_call, strict_tree, argument_tree, call_tree, op_tree, inst_tree, entry_tree, phi_tree, case_tree, term_tree, label_tree, block_tree, blocks_tree, parameter_tree, width_at, tree_with}
+use Rattle.vfa_print.proofs.EachElement.{each_append, each_at, each_map, each_weaker, each_parts, each_mapped, each_given}
+use Rattle.vfa_print.proofs.FittingTrees.{one_bit, IsFlagOf, cast_flags_known, flags_known}
+use Rattle.vfa_print.proofs.LanguageWords.{fixed_run, bin_run, call_run, pred_run, cast_run, cast_flag_run, flag_run, lead_run, parameter_run, type_run}
 use Rattle.vfa_print.proofs.Lexed.{IsLexed, IsRunWord, IsLexedBlock, IsLexedTree}
-use Rattle.vfa_print.proofs.NamesInScope.{HasNames, IsSomeName, each_parameter, block_ids_inside}
+use Rattle.vfa_print.proofs.NamesInScope.{HasNames, IsSomeName, each_parameter, block_ids_inside, call_places_inside, place_some}
 use Rattle.vfa_print.proofs.SignedTexts.{literal_fits, decimal_number}
 
 abbrev pub EachLexed : List Lexeme → Type 0
@@ -82,7 +84,33 @@ words_lexed (w ∷ ws) h = (h.0, words_lexed ws h.1)
 
 flags_lexed : (bin : Bin) (flags : Flags) → HasItsFlags bin flags → EachLexed (map word (flag_words flags))
 flags_lexed bin flags h =
-    words_lexed (flag_words flags) (each_weaker (IsFlagOf bin) IsRunWord (flag_run bin) (flag_words flags) (flags_known bin flags h))
+    words_lexed (flag_words flags) (each_weaker (IsFlagOf (flags_of bin)) IsRunWord (flag_run bin) (flag_words flags) (flags_known bin flags h))
+
+cast_flags_lexed : (cast : Cast) (flags : CastFlags) → HasItsCastFlags cast flags → EachLexed (map word (cast_flag_words flags))
+cast_flags_lexed cast flags h =
+    words_lexed (cast_flag_words flags)
+    (each_weaker (IsFlagOf (cast_flags_of cast)) IsRunWord (cast_flag_run cast) (cast_flag_words flags) (cast_flags_known cast flags h))
+
+same_sign_lexed : (samesign : Bool) → EachLexed (spell.same_sign samesign)
+same_sign_lexed true = (fixed_run (codes "samesign") refl, tt)
+same_sign_lexed false = tt
+
+result_type_lexed : (width : Option ℕ) → FitsResultType width → IsLexed (spell.result_type width)
+result_type_lexed (Some width) w = type_run width w
+result_type_lexed None w = fixed_run (codes "void") refl
+
+-- lists with commas between their elements
+further_lexed :
+    {X : Type 0} (spelled : X → List Lexeme) (xs : List X) → AllByRecursion (λ x. EachLexed (spelled x)) xs →
+    EachLexed (flat_map (λ x. (comma ∷ []) ++ spelled x) xs)
+further_lexed spelled [] h = tt
+further_lexed spelled (x ∷ xs) h = together (comma ∷ spelled x) _ (comma_lexed, h.0) (further_lexed spelled xs h.1)
+
+joined_lexed :
+    {X : Type 0} (spelled : X → List Lexeme) (xs : List X) → AllByRecursion (λ x. EachLexed (spelled x)) xs →
+    EachLexed (join_by spelled (comma ∷ []) xs)
+joined_lexed spelled [] h = tt
+joined_lexed spelled (x ∷ xs) h = together (spelled x) _ h.0 (further_lexed spelled xs h.1)
 
 pair_type_lexed : (width : ℕ) → IsWidth width → EachLexed (spell.pair_type width)
 pair_type_lexed width w =
@@ -124,7 +152,7 @@ switch_lexed default n cases h =
     together (spell.target default) (open_square ∷ (cases ++ (close_square ∷ []))) (target_lexed default n)
     (open_square_lexed, together cases (close_square ∷ []) h (close_square_lexed, tt))
 
-module _ (f : Function) (scope : Scope) (names : HasNames f scope) where
+module _ (f : Function) (scope : Scope) (names : HasNames f scope) (calls : AllByRecursion (PrintableCall f) f.calls) where
   abbrev typed_tree : ℕ → Operand → List Lexeme
   typed_tree width a = spell.typed width (operand_tree scope width a)
 
@@ -151,41 +179,77 @@ module _ (f : Function) (scope : Scope) (names : HasNames f scope) where
   typed_pair width a b h = together (typed_tree width a) _
       (typed_lexed width a h.of_width h.first) (comma_lexed, typed_lexed width b h.of_width h.second)
 
-  op_lexed : (op : Op) → PrintableOp f op → EachLexed (spell.operation (op_tree scope op))
-  op_lexed (Op.Bin bin flags width a b) h =
+  -- calls of functions that are no intrinsics
+  argument_lexed : (a : CallArg) → PrintableArgument f a → EachLexed (spell.argument (argument_tree scope a))
+  argument_lexed a h =
+      let words = each_weaker (λ w. IsTrue (is_among w parameter_words)) IsRunWord parameter_run a.words
+      (recursion_from_All (λ w. IsTrue (is_among w parameter_words)) a.words h.words) in
+      (type_run a.width h.width, together (map word a.words) _ (words_lexed a.words words) (value_lexed a.width a.value h.width h.value))
+
+  arguments_lexed :
+      (args : List CallArg) → AllByRecursion (PrintableArgument f) args →
+      EachLexed (join_by spell.argument (comma ∷ []) (map (argument_tree scope) args))
+  arguments_lexed args h =
+      joined_lexed spell.argument (map (argument_tree scope) args)
+      (each_map (λ a. EachLexed (spell.argument a)) (argument_tree scope) args
+      (each_weaker (PrintableArgument f) (λ a. EachLexed (spell.argument (argument_tree scope a))) argument_lexed args h))
+
+  call_tree_lexed :
+      (width : Option ℕ) → FitsResultType width → (o : Option CallOp) → (o ≡ None → ⊥) →
+      ((c : CallOp) → o ≡ Some c → PrintableCall f c) → EachLexed (spell.operation (call_tree scope width o))
+  call_tree_lexed width w None some h = absurd (some refl)
+  call_tree_lexed width w (Some c) some h =
+      let call = h c refl in
+      let words = each_weaker (λ w. IsTrue (is_among w call_words)) IsRunWord call_run c.words
+      (recursion_from_All (λ w. IsTrue (is_among w call_words)) c.words call.words) in
+      call_lexed (map word c.words ++ (spell.result_type width ∷ [])) c.callee
+      (join_by spell.argument (comma ∷ []) (map (argument_tree scope) c.args))
+      (together (map word c.words) (spell.result_type width ∷ []) (words_lexed c.words words) (result_type_lexed width w, tt))
+      call.some (arguments_lexed c.args (recursion_from_All (PrintableArgument f) c.args call.arguments))
+
+  -- the place of a call is one of the function's
+  abbrev IsCallPlace : Op → Type 0
+  IsCallPlace op = (k : ℕ) → call_place op ≡ Some k → k < length f.calls
+
+  op_lexed : (op : Op) → PrintableOp f op → IsCallPlace op → EachLexed (spell.operation (op_tree scope f.calls op))
+  op_lexed (Op.Bin bin flags width a b) h place =
       (bin_run bin, together (map word (flag_words flags)) _ (flags_lexed bin flags h.0) (value_pair width a b h.1))
-  op_lexed (Op.Icmp pred width a b) h = (fixed_run (codes "icmp") refl, (pred_run pred, value_pair width a b h))
-  op_lexed (Op.Select width c a b) h = (
+  op_lexed (Op.Icmp pred samesign width a b) h place =
+      (fixed_run (codes "icmp") refl, together (spell.same_sign samesign) _ (same_sign_lexed samesign) (pred_run pred, value_pair width a b h))
+  op_lexed (Op.Select width c a b) h place = (
     fixed_run (codes "select") refl,
     together (typed_tree 1 c) _ (typed_lexed 1 c one_bit h.0) (comma_lexed, typed_pair width a b h.1),
   )
-  op_lexed (Op.Cast cast from to a) h = (
+  op_lexed (Op.Cast cast flags from to a) h place = (
     cast_run cast,
-    together (typed_tree from a) _ (typed_lexed from a h.0 h.1)
-        (fixed_run (codes "to") refl, (type_run to h.2, tt)),
+    together (map word (cast_flag_words flags)) _ (cast_flags_lexed cast flags h.0)
+        (together (typed_tree from a) _ (typed_lexed from a h.1 h.2) (fixed_run (codes "to") refl, (type_run to h.3, tt))),
   )
-  op_lexed (Op.Freeze width a) h = (fixed_run (codes "freeze") refl, typed_lexed width a h.0 h.1)
-  op_lexed (Op.Two fun width a b) h =
+  op_lexed (Op.Freeze width a) h place = (fixed_run (codes "freeze") refl, typed_lexed width a h.0 h.1)
+  op_lexed (Op.Two fun width a b) h place =
       call_lexed (spell.type width ∷ []) (callee (fun2_word fun) width) (typed_trees width a b)
       (type_run width h.of_width, tt) (callee_some (fun2_word fun) width) (typed_pair width a b h)
-  op_lexed (Op.One fun width a strict) h =
+  op_lexed (Op.One fun width a strict) h place =
       call_lexed (spell.type width ∷ []) (callee (fun1_word fun) width)
       (typed_tree width a ++ spell.strict_argument (strict_tree fun strict))
       (type_run width h.0, tt) (callee_some (fun1_word fun) width)
       (together (typed_tree width a) _ (typed_lexed width a h.0 h.1) (strict_lexed fun strict))
-  op_lexed (Op.Over over width a b) h =
+  op_lexed (Op.Over over width a b) h place =
       call_lexed (spell.pair_type width) (callee (over_word over) width) (typed_trees width a b)
       (pair_type_lexed width h.of_width) (callee_some (over_word over) width) (typed_pair width a b h)
-  op_lexed (Op.Part width pair index) h =
+  op_lexed (Op.Part width pair index) h place =
       let most : index ≤ 1 = h.2 in (
         fixed_run (codes "extractvalue") refl,
         together (spell.pair_type width) (local (name_at scope.values pair.0) ∷ comma ∷ number (decimal index) ∷ [])
             (pair_type_lexed width h.0)
             (names.values pair.0 h.1, (comma_lexed, (decimal_number index (omega arith), tt))),
       )
-  op_lexed (Op.Assume c) h =
+  op_lexed (Op.Assume c) h place =
       call_lexed (word (codes "void") ∷ []) (codes "llvm.assume") (typed_tree 1 c)
       (fixed_run (codes "void") refl, tt) (cons_some 108 _) (typed_lexed 1 c one_bit h)
+  op_lexed (Op.Call width at) h place =
+      call_tree_lexed width h (slice_get f.calls at) (place_some f.calls at (place at refl))
+      (λ c e. each_at (PrintableCall f) f.calls at c calls e)
 
   -- instructions
   abbrev IsResult : Option ValueId → Type 0
@@ -195,11 +259,13 @@ module _ (f : Function) (scope : Scope) (names : HasNames f scope) where
   result_lexed None h = tt
   result_lexed (Some v) h = (names.values v.0 (h v.0 refl), (equals_lexed, tt))
 
-  inst_lexed : (i : Inst) → PrintableInst f i → IsResult i.result → EachLexed (spell.instruction (inst_tree scope i))
-  inst_lexed i h r =
-      let op : Operation = op_tree scope i.op in
+  inst_lexed :
+      (i : Inst) → PrintableInst f i → IsResult i.result → IsCallPlace i.op →
+      EachLexed (spell.instruction (inst_tree scope f.calls i))
+  inst_lexed i h r place =
+      let op : Operation = op_tree scope f.calls i.op in
       together (spell.result (option_map (λ v. name_at scope.values v.0) i.result)) _ (result_lexed i.result r)
-      (together (spell.operation op) [] (op_lexed i.op h.op) tt)
+      (together (spell.operation op) [] (op_lexed i.op h.op place) tt)
 
   -- phis
   abbrev IsEntry : ℕ → Operand × BlockId → Type 0
@@ -214,33 +280,25 @@ module _ (f : Function) (scope : Scope) (names : HasNames f scope) where
         (comma_lexed, (names.blocks e.1.0 h.1, (close_square_lexed, tt))),
   )
 
-  further_lexed :
-      (width : ℕ) → IsWidth width → (es : List (Operand × BlockId)) → AllByRecursion (IsEntry width) es →
-      EachLexed (flat_map spell.phi_part (map (λ e. PhiPart.Entry (entry_tree scope width e)) es))
-  further_lexed width w [] h = tt
-  further_lexed width w (e ∷ es) h =
-      together (comma ∷ spell.incoming (entry_tree scope width e)) _ (comma_lexed, entry_lexed width e w h.0) (further_lexed width w es h.1)
-
-  phi_lexed_with :
-      (p : Phi) (es : List (Operand × BlockId)) → p.entries ≡ es → p.result.0 < length f.values → IsWidth p.width →
-      (es ≡ [] → ⊥) → AllByRecursion (IsEntry p.width) es → EachLexed (spell.phi (phi_tree scope p))
-  phi_lexed_with p [] is lt w some h = absurd (some refl)
-  phi_lexed_with p (e ∷ es) is lt w some h = rw is (
-    names.values p.result.0 lt,
-    (
-      equals_lexed,
-      (
-        fixed_run (codes "phi") refl,
-        (
-          type_run p.width w,
-          together (spell.incoming (entry_tree scope p.width e)) _ (entry_lexed p.width e w h.0) (further_lexed p.width w es h.1),
-        ),
-      ),
-    ),
-  )
-
   phi_lexed : (p : Phi) → PrintablePhi f p → p.result.0 < length f.values → EachLexed (spell.phi (phi_tree scope p))
-  phi_lexed p h lt = phi_lexed_with p p.entries refl lt h.width h.some (recursion_from_All (IsEntry p.width) p.entries h.entries)
+  phi_lexed p h lt =
+      let entries =
+      joined_lexed spell.incoming (map (entry_tree scope p.width) p.entries)
+      (each_map (λ i. EachLexed (spell.incoming i)) (entry_tree scope p.width) p.entries
+      (each_weaker (IsEntry p.width) (λ e. EachLexed (spell.incoming (entry_tree scope p.width e)))
+      (λ e k. entry_lexed p.width e h.width k) p.entries (recursion_from_All (IsEntry p.width) p.entries h.entries))) in (
+        names.values p.result.0 lt,
+        (
+          equals_lexed,
+          (
+            fixed_run (codes "phi") refl,
+            (
+              type_run p.width h.width,
+              together (join_by spell.incoming (comma ∷ []) (map (entry_tree scope p.width) p.entries)) [] entries tt,
+            ),
+          ),
+        ),
+      )
 
   -- terminators
   abbrev IsCase : ℕ → ℕ × BlockId → Type 0
@@ -258,7 +316,7 @@ module _ (f : Function) (scope : Scope) (names : HasNames f scope) where
       )
       (cases_lexed width w cases h.1)
 
-  term_lexed : (t : Term) → PrintableTerm f t → EachLexed (spell.transfer (term_tree scope t))
+  term_lexed : (t : Term) → PrintableTerm f t → EachLexed (spell.terminator_kind (term_tree scope t))
   term_lexed (Term.Ret width a) h = (fixed_run (codes "ret") refl, typed_lexed width a h.0 h.1)
   term_lexed (Term.Br to) h = (fixed_run (codes "br") refl, target_lexed (block_name_at scope to) (names.blocks to.0 h))
   term_lexed (Term.CondBr c taken fallen) h = (
@@ -287,19 +345,17 @@ module _ (f : Function) (scope : Scope) (names : HasNames f scope) where
 
   insts_lexed :
       (insts : List Inst) → AllByRecursion (PrintableInst f) insts → AllByRecursion (λ i. IsResult i.result) insts →
-      EachLexed (flat_map spell.line (map (λ i. Line.Plain (inst_tree scope i)) insts))
-  insts_lexed [] h r = tt
-  insts_lexed (i ∷ insts) h r =
-      together (spell.instruction (inst_tree scope i)) _ (inst_lexed i h.0 r.0) (insts_lexed insts h.1 r.1)
+      AllByRecursion (λ (i : Inst). IsCallPlace i.op) insts →
+      EachLexed (flat_map spell.instruction (map (inst_tree scope f.calls) insts))
+  insts_lexed [] h r places = tt
+  insts_lexed (i ∷ insts) h r places =
+      together (spell.instruction (inst_tree scope f.calls i)) _ (inst_lexed i h.0 r.0 places.0) (insts_lexed insts h.1 r.1 places.1)
 
-  lines_lexed :
-      (phis : List Phi) (insts : List Inst) → AllByRecursion (PrintablePhi f) phis →
-      AllByRecursion (λ (p : Phi). IsValue p.result.0) phis → AllByRecursion (PrintableInst f) insts →
-      AllByRecursion (λ i. IsResult i.result) insts →
-      EachLexed (flat_map spell.line (map (λ p. Line.Phi (phi_tree scope p)) phis ++ map (λ i. Line.Plain (inst_tree scope i)) insts))
-  lines_lexed [] insts h v k r = insts_lexed insts k r
-  lines_lexed (p ∷ phis) insts h v k r =
-      together (spell.phi (phi_tree scope p)) _ (phi_lexed p h.0 v.0) (lines_lexed phis insts h.1 v.1 k r)
+  phis_lexed :
+      (phis : List Phi) → AllByRecursion (PrintablePhi f) phis → AllByRecursion (λ (p : Phi). IsValue p.result.0) phis →
+      EachLexed (flat_map spell.phi (map (phi_tree scope) phis))
+  phis_lexed [] h v = tt
+  phis_lexed (p ∷ phis) h v = together (spell.phi (phi_tree scope p)) _ (phi_lexed p h.0 v.0) (phis_lexed phis h.1 v.1)
 
   label_lexed : (place : ℕ) (b : Block) → place < length f.blocks → EachLexed (spell.block_label (label_tree scope place b))
   label_lexed place b lt = go (place == 0 && is_none b.name)
@@ -308,27 +364,35 @@ module _ (f : Function) (scope : Scope) (names : HasNames f scope) where
       go true = tt
       go false = (names.blocks place lt, tt)
 
+  -- the places of calls
+  abbrev IsPlace : ℕ → Type 0
+  IsPlace k = k < length f.calls
+
   block_lexed :
       (place : ℕ) (b : Block) → place < length f.blocks → PrintableBlock f b → AllByRecursion IsValue (block_ids b) →
-      EachLexed (spell.block (block_tree scope place b))
-  block_lexed place b lt h v =
+      AllByRecursion IsPlace (block_call_places b) → EachLexed (spell.block (block_tree scope f.calls place b))
+  block_lexed place b lt h v places =
       let ids = each_parts IsValue (map (λ p. p.result.0) b.phis) (inst_ids b.insts) v in
       let phis = each_mapped IsValue (λ p. p.result.0) b.phis ids.0 in
       let results = each_given IsValue (λ i. elim i.result [ None ↦ None | Some v ↦ Some v.0 ]) b.insts ids.1 in
-      let inner = lines_lexed b.phis b.insts (recursion_from_All (PrintablePhi f) b.phis h.phis) phis
-      (recursion_from_All (PrintableInst f) b.insts h.insts) results in
+      let called = each_given IsPlace (λ i. call_place i.op) b.insts places in
       together (spell.block_label (label_tree scope place b)) _ (label_lexed place b lt)
-      (together (flat_map spell.line (lines_tree scope b)) _ inner
-      (together (spell.transfer (term_tree scope b.term)) [] (term_lexed b.term h.term) tt))
+      (together (flat_map spell.phi (map (phi_tree scope) b.phis)) _
+      (phis_lexed b.phis (recursion_from_All (PrintablePhi f) b.phis h.phis) phis)
+      (together (flat_map spell.instruction (map (inst_tree scope f.calls) b.insts)) _
+      (insts_lexed b.insts (recursion_from_All (PrintableInst f) b.insts h.insts) results called)
+      (together (spell.terminator_kind (term_tree scope b.term)) [] (term_lexed b.term h.term) tt)))
 
   blocks_lexed :
       (place : ℕ) (bs : List Block) → place + length bs ≤ length f.blocks → AllByRecursion (PrintableBlock f) bs →
-      AllByRecursion (λ b. AllByRecursion IsValue (block_ids b)) bs → AllByRecursion IsLexedBlock (blocks_tree scope place bs)
-  blocks_lexed place [] lt h v = tt
-  blocks_lexed place (b ∷ bs) lt h v =
-      let tree : BasicBlock = block_tree scope place b in (
-        record { tokens = All-from_recursion IsLexed (spell.block tree) (block_lexed place b (omega arith) h.0 v.0); bare = refl },
-        blocks_lexed (suc place) bs (omega arith) h.1 v.1,
+      AllByRecursion (λ b. AllByRecursion IsValue (block_ids b)) bs →
+      AllByRecursion (λ b. AllByRecursion IsPlace (block_call_places b)) bs →
+      AllByRecursion IsLexedBlock (blocks_tree scope f.calls place bs)
+  blocks_lexed place [] lt h v places = tt
+  blocks_lexed place (b ∷ bs) lt h v places =
+      let tree : BasicBlock = block_tree scope f.calls place b in (
+        record { tokens = All-from_recursion IsLexed (spell.block tree) (block_lexed place b (omega arith) h.0 v.0 places.0); bare = refl },
+        blocks_lexed (suc place) bs (omega arith) h.1 v.1 places.1,
       )
 
   -- the header
@@ -344,20 +408,11 @@ module _ (f : Function) (scope : Scope) (names : HasNames f scope) where
       (recursion_from_All (λ w. IsTrue (is_among w parameter_words)) p.words k) in
       (type_run (width_at f.values p.value.0) h.0, together (map word p.words) _ (words_lexed p.words words) (names.values p.value.0 h.1, tt))
 
-  further_parameters_lexed :
-      (ps : List Param) → AllByRecursion IsParameter ps → AllByRecursion HasItsWords ps →
-      EachLexed (flat_map (λ p. (comma ∷ []) ++ spell.parameter p) (map (parameter_tree scope f.values) ps))
-  further_parameters_lexed [] h k = tt
-  further_parameters_lexed (p ∷ ps) h k =
-      together (comma ∷ spell.parameter (parameter_tree scope f.values p)) _
-      (comma_lexed, parameter_lexed p h.0 k.0) (further_parameters_lexed ps h.1 k.1)
-
   parameters_lexed :
       (ps : List Param) → AllByRecursion IsParameter ps → AllByRecursion HasItsWords ps →
-      EachLexed (join_by spell.parameter (comma ∷ []) (map (parameter_tree scope f.values) ps))
+      AllByRecursion (λ p. EachLexed (spell.parameter p)) (map (parameter_tree scope f.values) ps)
   parameters_lexed [] h k = tt
-  parameters_lexed (p ∷ ps) h k =
-      together (spell.parameter (parameter_tree scope f.values p)) _ (parameter_lexed p h.0 k.0) (further_parameters_lexed ps h.1 k.1)
+  parameters_lexed (p ∷ ps) h k = (parameter_lexed p h.0 k.0, parameters_lexed ps h.1 k.1)
 
   header_lexed : IsPrintable f → EachLexed (spell.header (tree_with scope f))
   header_lexed h =
@@ -371,7 +426,9 @@ module _ (f : Function) (scope : Scope) (names : HasNames f scope) where
             (
               open_round_lexed,
               together (join_by spell.parameter (comma ∷ []) (map (parameter_tree scope f.values) f.params)) _
-                  (parameters_lexed f.params (each_parameter f h) (recursion_from_All HasItsWords f.params h.words)) (close_round_lexed, tt),
+                  (joined_lexed spell.parameter (map (parameter_tree scope f.values) f.params)
+                  (parameters_lexed f.params (each_parameter f h) (recursion_from_All HasItsWords f.params h.words)))
+                  (close_round_lexed, tt),
             ),
           ),
         ),
@@ -380,6 +437,7 @@ module _ (f : Function) (scope : Scope) (names : HasNames f scope) where
   pub scoped_tree_lexed : IsPrintable f → IsLexedTree (tree_with scope f)
   scoped_tree_lexed h = record {
     header = All-from_recursion IsLexed (spell.header (tree_with scope f)) (header_lexed h);
-    blocks = All-from_recursion IsLexedBlock (blocks_tree scope 0 f.blocks)
-        (blocks_lexed 0 f.blocks (omega arith) (recursion_from_All (PrintableBlock f) f.blocks h.blocks) (block_ids_inside f h));
+    blocks = All-from_recursion IsLexedBlock (blocks_tree scope f.calls 0 f.blocks)
+        (blocks_lexed 0 f.blocks (omega arith) (recursion_from_All (PrintableBlock f) f.blocks h.blocks) (block_ids_inside f h)
+        (call_places_inside f h));
   }

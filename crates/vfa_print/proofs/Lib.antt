@@ -16,6 +16,7 @@ pub mod NumberedNames
 pub mod OneToken
 pub mod OperationsBack
 pub mod PiecesCut
+pub mod PrintableCalls
 pub mod PrintableParts
 pub mod PrintableWhereFit
 pub mod PrintedBlocks

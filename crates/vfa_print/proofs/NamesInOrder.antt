@@ -9,9 +9,9 @@ use Rattle.std.specs.List.{AllByRecursion, IsDistinct, list_all, range_with_len,
 use Rattle.vfa_ir.specs.declared.syntax.BasicBlock.{BasicBlock}
 use Rattle.vfa_ir.specs.declared.syntax.Parameter.{Parameter}
 use Rattle.vfa_ir.specs.DefinedNames.{block_name, block_names, block_results, defined_names, duplicate_of, is_numbered, kept_name, parameter_names, value_names}
-use Rattle.vfa_ir.specs.Grammar.{FitsBlock, FitsParameter}
+use Rattle.vfa_ir.specs.Grammar.{FitsParameter}
 use Rattle.vfa_ir.specs.Printable.{block_ids, HasItsTypes, ids_of, IsIntegerType, kept_names}
-use Rattle.vfa_ir.specs.Resolution.{block_of, block_values, function_of, parameter_value, params_from, scope_of, Scope}
+use Rattle.vfa_ir.specs.Resolution.{block_values, blocks_of, call_count, function_of, parameter_value, params_from, scope_of, Scope}
 use Rattle.vfa_ir.specs.Sentence.{Sentence}
 use Rattle.vfa_ir.specs.Words.{is_digits}
 use Rattle.vfa_print.proofs.DistinctNames.{distinct_once, occurs, occurs-append, one_if, places_from, repeats_none}
@@ -69,25 +69,27 @@ parameters_kept k (p ∷ ps) = go p.name (parameters_kept (if is_numbered p then
     go None again = again ∙ sym (numbered_none k (parameter_names (if is_numbered p then k + 1 else k) ps))
     go (Some name) again = ap (cons_option (kept_name name)) again
 
-blocks_kept : (s : Sentence) (scope : Scope) (bs : List BasicBlock) → filter_map (λ b. b.name) (map (block_of scope) bs) ≡ kept_in (map (block_name s) bs)
-blocks_kept s scope [] = refl
-blocks_kept s scope (b ∷ bs) = go b.label (blocks_kept s scope bs)
+blocks_kept :
+    (s : Sentence) (scope : Scope) (n : ℕ) (bs : List BasicBlock) →
+    filter_map (λ b. b.name) (blocks_of scope n bs) ≡ kept_in (map (block_name s) bs)
+blocks_kept s scope n [] = refl
+blocks_kept s scope n (b ∷ bs) = go b.label (blocks_kept s scope (n + call_count b) bs)
   where
     go :
-        (o : Option (List ℕ)) → filter_map (λ c. c.name) (map (block_of scope) bs) ≡ kept_in (map (block_name s) bs) →
-        cons_option (elim o [ None ↦ None | Some name ↦ kept_name name ]) (filter_map (λ c. c.name) (map (block_of scope) bs))
+        (o : Option (List ℕ)) → filter_map (λ c. c.name) (blocks_of scope (n + call_count b) bs) ≡ kept_in (map (block_name s) bs) →
+        cons_option (elim o [ None ↦ None | Some name ↦ kept_name name ]) (filter_map (λ c. c.name) (blocks_of scope (n + call_count b) bs))
         ≡ kept_in (unwrap_or o (decimal (count_by is_numbered s.parameters)) ∷ map (block_name s) bs)
     go None again = again ∙ sym (numbered_none (count_by is_numbered s.parameters) (map (block_name s) bs))
     go (Some name) again = ap (cons_option (kept_name name)) again
 
 pub kept_are : (s : Sentence) (tail : List ℕ) → kept_names (function_of s tail) ≡ kept_in (value_names s) ++ kept_in (block_names s)
 kept_are s tail =
-    ap (λ r. r ++ filter_map (λ b. b.name) (map (block_of (scope_of s)) s.blocks))
+    ap (λ r. r ++ filter_map (λ b. b.name) (blocks_of (scope_of s) 0 s.blocks))
     (filter_map-append (λ v. v.name) (map parameter_value s.parameters) (flat_map block_values s.blocks)
     ∙ ap (λ r. r ++ names_in (flat_map block_values s.blocks)) (parameters_kept 0 s.parameters)
     ∙ ap (λ r. kept_in (parameter_names 0 s.parameters) ++ r) (blocks_names s.blocks)
     ∙ sym (filter_map-append kept_name (parameter_names 0 s.parameters) (flat_map block_results s.blocks)))
-    ∙ ap (λ r. kept_in (value_names s) ++ r) (blocks_kept s (scope_of s) s.blocks)
+    ∙ ap (λ r. kept_in (value_names s) ++ r) (blocks_kept s (scope_of s) 0 s.blocks)
 
 -- they stand once
 kept_fewer : (n : List ℕ) (names : List (List ℕ)) → occurs n (kept_in names) ≤ occurs n names
@@ -150,7 +152,7 @@ params_ids : (k : ℕ) (ps : List Parameter) → map (λ p. p.value.0) (params_f
 params_ids k [] = refl
 params_ids k (p ∷ ps) = ap (λ r. k ∷ r) (params_ids (suc k) ps ∙ ap (λ i. range_with_len i (length ps)) (sym (add-one k)))
 
-range-append : (k n m : ℕ) → range_with_len k n ++ range_with_len (k + n) m ≡ range_with_len k (n + m)
+pub range-append : (k n m : ℕ) → range_with_len k n ++ range_with_len (k + n) m ≡ range_with_len k (n + m)
 range-append k zero m = let at : k + 0 ≡ k = omega arith in let long : 0 + m ≡ m = omega arith in rw (at, long) refl
 range-append k (suc n) m =
     let at : k + suc n ≡ k + 1 + n = omega arith in
@@ -165,17 +167,17 @@ values_length s tail =
     ∙ sym (length-append (parameter_names 0 s.parameters) (flat_map block_results s.blocks))
 
 pub ids_in_order :
-    (s : Sentence) (tail : List ℕ) → AllByRecursion FitsBlock s.blocks → duplicate_of s ≡ None →
+    (s : Sentence) (tail : List ℕ) → duplicate_of s ≡ None →
     ids_of (function_of s tail) ≡ range_with_len 0 (length (function_of s tail).values)
-ids_in_order s tail fits h =
+ids_in_order s tail h =
     let ps : List (List ℕ) = parameter_names 0 s.parameters in
     let rs : List (List ℕ) = flat_map block_results s.blocks in
     let n : length ps ≡ length s.parameters = length-parameters 0 s.parameters in
     let first = params_ids 0 s.parameters ∙ ap (range_with_len 0) (sym n) in
-    let second = blocks_places (scope_of s) s.blocks fits
+    let second = blocks_places (scope_of s) 0 s.blocks
     ∙ places_from (value_names s) ps rs refl (λ m. let most = defined_once s h m in omega arith) in
     let zero_from : length ps ≡ 0 + length ps = omega arith in
-    ap (λ r. r ++ flat_map block_ids (map (block_of (scope_of s)) s.blocks)) first
+    ap (λ r. r ++ flat_map block_ids (blocks_of (scope_of s) 0 s.blocks)) first
     ∙ ap (λ r. range_with_len 0 (length ps) ++ r) (second ∙ ap (λ i. range_with_len i (length rs)) zero_from)
     ∙ range-append 0 (length ps) (length rs)
     ∙ ap (range_with_len 0) (sym (length-append ps rs) ∙ sym (values_length s tail))
@@ -185,8 +187,8 @@ parameter_types : (ps : List Parameter) → AllByRecursion FitsParameter ps → 
 parameter_types [] fits = tt
 parameter_types (p ∷ ps) fits = (fits.0.width, parameter_types ps fits.1)
 
-pub types_of : (s : Sentence) (tail : List ℕ) → All FitsParameter s.parameters → AllByRecursion FitsBlock s.blocks → HasItsTypes (function_of s tail)
-types_of s tail params fits =
+pub types_of : (s : Sentence) (tail : List ℕ) → All FitsParameter s.parameters → HasItsTypes (function_of s tail)
+types_of s tail params =
     let n : length (params_from 0 s.parameters) ≡ length (map parameter_value s.parameters) =
     length-params 0 s.parameters ∙ sym (length-map parameter_value s.parameters) in
     record {
@@ -194,5 +196,5 @@ types_of s tail params fits =
           (sym (ap (λ k. take k (map parameter_value s.parameters ++ flat_map block_values s.blocks)) n ∙ take-append_seam (map parameter_value s.parameters) (flat_map block_values s.blocks)))
           (All-from_recursion (λ v. IsIntegerType v.ty) (map parameter_value s.parameters) (parameter_types s.parameters (recursion_from_All FitsParameter s.parameters params)));
       results = ap (map (λ v. v.ty)) (ap (λ k. drop k (map parameter_value s.parameters ++ flat_map block_values s.blocks)) n ∙ drop-append_seam (map parameter_value s.parameters) (flat_map block_values s.blocks))
-          ∙ blocks_types (scope_of s) s.blocks fits;
+          ∙ blocks_types (scope_of s) 0 s.blocks;
     }

@@ -1,5 +1,5 @@
 -- The ids of a printable function are in range, and what they are shown by is not empty.
-use Rattle.std.proofs.Common.{◌≡◌, ◌∙◌, ℕ, ◌<◌, ◌≤◌, List, [], ◌∷◌, length, map, flat_map, filter_map, get_or, All, Option, Some, None, decimal, refl, sym, ap, subst, arith}
+use Rattle.std.proofs.Common.{◌≡◌, ◌∙◌, slice_get, zero, suc, ℕ, ◌<◌, ◌≤◌, List, [], ◌∷◌, length, map, flat_map, filter_map, get_or, All, Option, Some, None, decimal, refl, sym, ap, subst, arith}
 use Rattle.std.specs.List.{AllByRecursion, range_with_len}
 use Rattle.std.proofs.lemmas.List.{get_or-take, get_or-map, get_or_append_left, length-map, length-append, length-take-le}
 use Rattle.std.proofs.lemmas.List.Elements.{recursion_from_All, All-from_get_or}
@@ -11,7 +11,7 @@ use Rattle.vfa_ir.specs.declared.functions.Value.{Value}
 use Rattle.vfa_ir.specs.declared.numbering.Local.{Local}
 use Rattle.vfa_ir.specs.declared.operations.Ty.{Ty}
 use Rattle.vfa_ir.specs.Grammar.{IsWidth}
-use Rattle.vfa_ir.specs.Printable.{IsPrintable, IsKeptName, IsIntegerType, kept_names, ids_of, block_ids}
+use Rattle.vfa_ir.specs.Printable.{IsPrintable, IsKeptName, IsIntegerType, PrintableCall, kept_names, ids_of, block_call_places, block_ids, call_places}
 use Rattle.vfa_ir.specs.Resolution.{Scope}
 use Rattle.vfa_ir.specs.Shown.{name_of, number_of, shown_name, shown_value_name, shown_block_name}
 use Rattle.vfa_print.specs.Trees.{shown_scope, name_at, width_of, width_at}
@@ -25,6 +25,11 @@ IsSomeName name = name ≡ [] → ⊥
 pub record HasNames (f : Function) (scope : Scope) : Type 0 where
   pub values : (v : ℕ) → v < length f.values → IsSomeName (name_at scope.values v)
   pub blocks : (b : ℕ) → b < length f.blocks → IsSomeName (name_at scope.blocks b)
+
+pub place_some : {X : Type 0} (xs : List X) (k : ℕ) → k < length xs → slice_get xs k ≡ None → ⊥
+place_some [] k lt e = absurd (omega arith)
+place_some (x ∷ xs) zero lt e = cc
+place_some (x ∷ xs) (suc k) lt e = place_some xs k (omega arith) e
 
 module _ (f : Function) (printable : IsPrintable f) where
   kept_values : AllByRecursion IsKeptName (filter_map (λ v. v.name) f.values)
@@ -80,6 +85,24 @@ module _ (f : Function) (printable : IsPrintable f) where
   pub block_ids_inside : AllByRecursion (λ b. AllByRecursion IsValue (block_ids b)) f.blocks
   block_ids_inside = each_gathered IsValue block_ids f.blocks
       (each_parts IsValue (map (λ p. p.value.0) f.params) (flat_map block_ids f.blocks) ids_inside).1
+
+  -- the calls, and their places
+  pub each_call : AllByRecursion (PrintableCall f) f.calls
+  each_call = recursion_from_All (PrintableCall f) f.calls printable.calls
+
+  abbrev IsPlace : ℕ → Type 0
+  IsPlace k = k < length f.calls
+
+  places_inside : All IsPlace (range_with_len 0 (length f.calls))
+  places_inside = All-from_get_or IsPlace (range_with_len 0 (length f.calls)) 0
+      (λ i lt. let long = length-range_with_len 0 (length f.calls) in
+      let within : i < length f.calls = omega arith in
+      let is = get_or-range_with_len 0 (length f.calls) i 0 within in
+      omega arith)
+
+  pub call_places_inside : AllByRecursion (λ b. AllByRecursion IsPlace (block_call_places b)) f.blocks
+  call_places_inside = each_gathered IsPlace block_call_places f.blocks
+      (recursion_from_All IsPlace (call_places f) (subst (All IsPlace) (sym printable.call_places) places_inside))
 
   -- a parameter is the value of its own place
   params_within : length f.params ≤ length f.values

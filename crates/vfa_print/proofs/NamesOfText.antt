@@ -3,12 +3,13 @@ use Rattle.std.proofs.Common.{◌≡◌, ◌∙◌, ℕ, ◌+◌, ◌-◌, ◌==
 use Rattle.std.proofs.lemmas.List.Elements.{All-from_recursion}
 use Rattle.std.specs.List.{AllByRecursion, cons_option, join_by}
 use Rattle.vfa_ir.specs.declared.syntax.BasicBlock.{BasicBlock}
-use Rattle.vfa_ir.specs.declared.syntax.Line.{Line}
+use Rattle.vfa_ir.specs.declared.syntax.Instruction.{Instruction}
 use Rattle.vfa_ir.specs.declared.syntax.Parameter.{Parameter}
+use Rattle.vfa_ir.specs.declared.syntax.PhiNode.{PhiNode}
 use Rattle.vfa_ir.specs.declared.tokens.Token.{Token}
 use Rattle.vfa_ir.specs.declared.tokens.TokenKind.{TokenKind}
 use Rattle.vfa_ir.specs.declared.tokens.TokenKind.TheVariants as Kind
-use Rattle.vfa_ir.specs.DefinedNames.{block_name, block_names, block_results, is_numbered, line_result, parameter_names, value_names}
+use Rattle.vfa_ir.specs.DefinedNames.{block_name, block_names, block_results, is_numbered, parameter_names, value_names}
 use Rattle.vfa_ir.specs.Lexemes.{Lexeme, local, global, label, nameless_local, nameless_global, nameless_label, word}
 use Rattle.vfa_ir.specs.Names.{decoded}
 use Rattle.vfa_ir.specs.Printable.{IsKeptName, kept_names}
@@ -84,7 +85,7 @@ lexemes_some text (t ∷ ts) = (lexeme_some t.kind _, lexemes_some text ts)
 
 -- A sentence whose lexemes have names
 
-words_front : (ws : List (List ℕ)) (rest : List Lexeme) → AllByRecursion HasName (map word ws ++ rest) → AllByRecursion HasName rest
+pub words_front : (ws : List (List ℕ)) (rest : List Lexeme) → AllByRecursion HasName (map word ws ++ rest) → AllByRecursion HasName rest
 words_front [] rest h = h
 words_front (w ∷ ws) rest h = words_front ws rest h.1
 
@@ -108,20 +109,43 @@ parameters_some [] h = tt
 parameters_some (p ∷ ps) h =
     (parameter_some 0 p (all_front HasName (spell.parameter p) _ h), further_some (if is_numbered p then 0 + 1 else 0) ps (all_back HasName (spell.parameter p) _ h))
 
-lines_some : (ls : List Line) → AllByRecursion HasName (flat_map spell.line ls) → AllByRecursion IsSome (filter_map line_result ls)
-lines_some [] h = tt
-lines_some (Line.Phi p ∷ ls) h = (h.0, lines_some ls (all_back HasName (spell.phi p) _ h))
-lines_some (Line.Plain i ∷ ls) h = go i.result (all_front HasName (spell.result i.result) _ (all_front HasName (spell.instruction i) _ h)) (lines_some ls (all_back HasName (spell.instruction i) _ h))
+phis_some : (ps : List PhiNode) → AllByRecursion HasName (flat_map spell.phi ps) → AllByRecursion IsSome (map (λ (p : PhiNode). p.result) ps)
+phis_some [] h = tt
+phis_some (p ∷ ps) h = (h.0, phis_some ps (all_back HasName (spell.phi p) _ h))
+
+insts_some :
+    (is : List Instruction) → AllByRecursion HasName (flat_map spell.instruction is) →
+    AllByRecursion IsSome (filter_map (λ (i : Instruction). i.result) is)
+insts_some [] h = tt
+insts_some (i ∷ is) h =
+    go i.result (all_front HasName (spell.result i.result) _ (all_front HasName (spell.instruction i) _ h))
+    (insts_some is (all_back HasName (spell.instruction i) _ h))
   where
-    go : (o : Option (List ℕ)) → AllByRecursion HasName (spell.result o) → AllByRecursion IsSome (filter_map line_result ls) → AllByRecursion IsSome (cons_option o (filter_map line_result ls))
+    go :
+        (o : Option (List ℕ)) → AllByRecursion HasName (spell.result o) →
+        AllByRecursion IsSome (filter_map (λ (i : Instruction). i.result) is) →
+        AllByRecursion IsSome (cons_option o (filter_map (λ (i : Instruction). i.result) is))
     go None all again = again
     go (Some name) all again = (all.0, again)
+
+-- the parts of a block
+pub of_phis : (b : BasicBlock) → AllByRecursion HasName (spell.block b) → AllByRecursion HasName (flat_map spell.phi b.phis)
+of_phis b h = all_front HasName (flat_map spell.phi b.phis) _ (all_back HasName (spell.block_label b.label) _ h)
+
+pub of_instructions :
+    (b : BasicBlock) → AllByRecursion HasName (spell.block b) → AllByRecursion HasName (flat_map spell.instruction b.instructions)
+of_instructions b h =
+    all_front HasName (flat_map spell.instruction b.instructions) _
+    (all_back HasName (flat_map spell.phi b.phis) _ (all_back HasName (spell.block_label b.label) _ h))
 
 blocks_some : (bs : List BasicBlock) → AllByRecursion HasName (flat_map spell.block bs) → AllByRecursion IsSome (flat_map block_results bs)
 blocks_some [] h = tt
 blocks_some (b ∷ bs) h =
-    let here = all_back HasName (spell.block_label b.label) _ (all_front HasName (spell.block b) _ h) in
-    all_both IsSome (block_results b) (flat_map block_results bs) (lines_some b.lines (all_front HasName (flat_map spell.line b.lines) _ here)) (blocks_some bs (all_back HasName (spell.block b) _ h))
+    let here = all_front HasName (spell.block b) _ h in
+    all_both IsSome (block_results b) (flat_map block_results bs)
+    (all_both IsSome (map (λ (p : PhiNode). p.result) b.phis) (filter_map (λ (i : Instruction). i.result) b.instructions)
+    (phis_some b.phis (of_phis b here)) (insts_some b.instructions (of_instructions b here)))
+    (blocks_some bs (all_back HasName (spell.block b) _ h))
 
 labels_some : (s : Sentence) (bs : List BasicBlock) → AllByRecursion HasName (flat_map spell.block bs) → AllByRecursion IsSome (map (block_name s) bs)
 labels_some s [] h = tt
@@ -143,7 +167,7 @@ module _ (s : Sentence) (named_all : AllByRecursion HasName (spell.spelling s)) 
   of_header : AllByRecursion HasName (spell.header s)
   of_header = all_front HasName (spell.header s) _ named_all
 
-  of_blocks : AllByRecursion HasName (flat_map spell.block s.blocks)
+  pub of_blocks : AllByRecursion HasName (flat_map spell.block s.blocks)
   of_blocks = all_front HasName (flat_map spell.block s.blocks) _ (all_back HasName s.tail _ (all_back HasName (spell.header s) _ named_all)).1
 
   of_name : AllByRecursion HasName (spell.type s.width ∷ global s.name ∷ spell.open_round ∷ (join_by spell.parameter (spell.comma ∷ []) s.parameters ++ (spell.close_round ∷ [])))

@@ -1,11 +1,14 @@
 -- From the tree of an operand, an operation or a terminator back to itself.
-use Rattle.std.proofs.Common.{◌≡◌, ◌∙◌, ℕ, zero, suc, ◌-◌, ◌<◌, ◌≤◌, ◌^◌, ◌==◌, Bool, true, false, nat_lt, if◌then◌else◌, List, [], ◌∷◌, ◌++◌, map, length, codes, decimal, pos, neg_ℤ, refl, sym, ap, subst, arith, eqb-true, true≢false, pow_mono}
+use Rattle.std.proofs.Common.{◌≡◌, ◌∙◌, Option, Some, None, option_and_then, slice_get, ℕ, zero, suc, ◌-◌, ◌<◌, ◌≤◌, ◌^◌, ◌==◌, Bool, true, false, nat_lt, if◌then◌else◌, List, [], ◌∷◌, map, length, decimal, pos, neg_ℤ, refl, sym, ap, subst, arith, eqb-true, true≢false, pow_mono}
 use Rattle.std.specs.List.{AllByRecursion}
 use Rattle.std.specs.Str.Parse.{digits_value}
 use Rattle.std.proofs.lemmas.List.Elements.{recursion_from_All}
+use Rattle.vfa_ir.specs.declared.functions.CallArg.{CallArg}
+use Rattle.vfa_ir.specs.declared.functions.CallOp.{CallOp}
 use Rattle.vfa_ir.specs.declared.functions.Function.{Function}
 use Rattle.vfa_ir.specs.declared.functions.Term.{Term}
 use Rattle.vfa_ir.specs.declared.operations.BlockId.{BlockId}
+use Rattle.vfa_ir.specs.declared.operations.CastFlags.{CastFlags}
 use Rattle.vfa_ir.specs.declared.operations.Flags.{Flags}
 use Rattle.vfa_ir.specs.declared.operations.Fun1.{Fun1}
 use Rattle.vfa_ir.specs.declared.operations.Op.{Op}
@@ -14,12 +17,14 @@ use Rattle.vfa_ir.specs.declared.operations.ValueId.{ValueId}
 use Rattle.vfa_ir.specs.declared.numbering.Local.{Local}
 use Rattle.vfa_ir.specs.declared.syntax.Literal.{Literal}
 use Rattle.vfa_ir.specs.Grammar.{IsWidth, number_value}
-use Rattle.vfa_ir.specs.Printable.{HasItsArgument, IsBlock, IsOperand, IsPrintable, PrintableOp, PrintableTerm}
-use Rattle.vfa_ir.specs.Resolution.{bits_of, block_id, flags_of_words, is_strict, literal_bits, op_of, operand_of, place_of, term_of, value_id}
+use Rattle.vfa_ir.specs.Printable.{HasItsArgument, IsBlock, IsOperand, IsPrintable, PrintableArgument, PrintableCall, PrintableOp, PrintableTerm, call_place}
+use Rattle.vfa_ir.specs.Resolution.{argument_of, bits_of, block_id, call_of, cast_flags_of_words, flags_of_words, is_strict, literal_bits, op_of, operand_of, place_of, term_of, value_id}
 use Rattle.vfa_ir.specs.Shown.{shown_block_name, shown_value_name}
 use Rattle.vfa_ir.specs.Words.{is_digits}
-use Rattle.vfa_print.specs.Trees.{block_name_at, case_tree, flag_word, flag_words, literal_tree, name_at, op_tree, operand_tree, shown_scope, signed_text, strict_tree, term_tree}
+use Rattle.vfa_print.specs.Trees.{argument_tree, block_name_at, call_tree, case_tree, cast_flag_words, flag_words, literal_tree, name_at, op_tree, operand_tree, shown_scope, signed_text, strict_tree, term_tree}
 use Rattle.vfa_print.proofs.NameNumbers.{decimal_is_digits, decimal_value, name_at-range, place-range}
+use Rattle.vfa_print.proofs.EachElement.{each_at}
+use Rattle.vfa_print.proofs.NamesInScope.{each_call, place_some}
 use Rattle.vfa_print.proofs.ShownNames.{HasFewNames, shown_alike}
 
 -- literals
@@ -81,12 +86,36 @@ literal_back width bits is_width h = by (width == 1) refl
 
 -- flags and arguments
 flags_back : (flags : Flags) → flags_of_words (flag_words flags) ≡ flags
-flags_back flags = by flags.nuw flags.nsw flags.exact
+flags_back flags = by flags.nuw flags.nsw flags.exact flags.disjoint
   where
     by :
-        (nuw nsw exact : Bool) →
-        flags_of_words (flag_word nuw (codes "nuw") ++ (flag_word nsw (codes "nsw") ++ flag_word exact (codes "exact")))
-        ≡ record { nuw = nuw; nsw = nsw; exact = exact }
+        (nuw nsw exact disjoint : Bool) →
+        flags_of_words (flag_words (record { nuw = nuw; nsw = nsw; exact = exact; disjoint = disjoint }))
+        ≡ record { nuw = nuw; nsw = nsw; exact = exact; disjoint = disjoint }
+    by true true true true = refl
+    by true true true false = refl
+    by true true false true = refl
+    by true true false false = refl
+    by true false true true = refl
+    by true false true false = refl
+    by true false false true = refl
+    by true false false false = refl
+    by false true true true = refl
+    by false true true false = refl
+    by false true false true = refl
+    by false true false false = refl
+    by false false true true = refl
+    by false false true false = refl
+    by false false false true = refl
+    by false false false false = refl
+
+cast_flags_back : (flags : CastFlags) → cast_flags_of_words (cast_flag_words flags) ≡ flags
+cast_flags_back flags = by flags.nuw flags.nsw flags.nneg
+  where
+    by :
+        (nuw nsw nneg : Bool) →
+        cast_flags_of_words (cast_flag_words (record { nuw = nuw; nsw = nsw; nneg = nneg }))
+        ≡ record { nuw = nuw; nsw = nsw; nneg = nneg }
     by true true true = refl
     by true true false = refl
     by true false true = refl
@@ -136,37 +165,88 @@ module _ (f : Function) (printable : IsPrintable f) (few : HasFewNames f) where
   operand_back width (Operand.Literal bits) w h = ap (λ n. Operand.Literal n) (literal_back width bits w h)
   operand_back width Operand.Poison w h = refl
 
-  pub op_back : (op : Op) → PrintableOp f op → op_of (shown_scope f) (op_tree (shown_scope f) op) ≡ op
-  op_back (Op.Bin bin flags width a b) h =
+  -- an operation before which so many calls stand: if it is a call, it is the next one
+  abbrev IsNext : ℕ → Op → Type 0
+  IsNext n op = (k : ℕ) → call_place op ≡ Some k → k ≡ n
+
+  call_back :
+      (n : ℕ) (width : Option ℕ) (o : Option CallOp) → op_of (shown_scope f) n (call_tree (shown_scope f) width o) ≡ Op.Call width n
+  call_back n width None = refl
+  call_back n width (Some c) = refl
+
+  pub op_back : (n : ℕ) (op : Op) → PrintableOp f op → IsNext n op → op_of (shown_scope f) n (op_tree (shown_scope f) f.calls op) ≡ op
+  op_back n (Op.Bin bin flags width a b) h next =
       let words = flags_back flags in
       let first = operand_back width a h.1.of_width h.1.first in
       let second = operand_back width b h.1.of_width h.1.second in
       λ i. Op.Bin bin (words i) width (first i) (second i)
-  op_back (Op.Icmp pred width a b) h =
+  op_back n (Op.Icmp pred samesign width a b) h next =
       let first = operand_back width a h.of_width h.first in
       let second = operand_back width b h.of_width h.second in
-      λ i. Op.Icmp pred width (first i) (second i)
-  op_back (Op.Select width c a b) h =
+      λ i. Op.Icmp pred samesign width (first i) (second i)
+  op_back n (Op.Select width c a b) h next =
       let test = operand_back 1 c one_is_width h.0 in
       let first = operand_back width a h.1.of_width h.1.first in
       let second = operand_back width b h.1.of_width h.1.second in
       λ i. Op.Select width (test i) (first i) (second i)
-  op_back (Op.Cast cast from to a) h = ap (λ a. Op.Cast cast from to a) (operand_back from a h.0 h.1)
-  op_back (Op.Freeze width a) h = ap (λ a. Op.Freeze width a) (operand_back width a h.0 h.1)
-  op_back (Op.Two fun width a b) h =
+  op_back n (Op.Cast cast flags from to a) h next =
+      let words = cast_flags_back flags in
+      let first = operand_back from a h.1 h.2 in
+      λ i. Op.Cast cast (words i) from to (first i)
+  op_back n (Op.Freeze width a) h next = ap (λ a. Op.Freeze width a) (operand_back width a h.0 h.1)
+  op_back n (Op.Two fun width a b) h next =
       let first = operand_back width a h.of_width h.first in
       let second = operand_back width b h.of_width h.second in
       λ i. Op.Two fun width (first i) (second i)
-  op_back (Op.One fun width a strict) h =
+  op_back n (Op.One fun width a strict) h next =
       let first = operand_back width a h.0 h.1 in
       let second = strict_back fun strict h.2 in
       λ i. Op.One fun width (first i) (second i)
-  op_back (Op.Over over width a b) h =
+  op_back n (Op.Over over width a b) h next =
       let first = operand_back width a h.of_width h.first in
       let second = operand_back width b h.of_width h.second in
       λ i. Op.Over over width (first i) (second i)
-  op_back (Op.Part width pair index) h = ap (λ v. Op.Part width v index) (value_back pair h.1)
-  op_back (Op.Assume c) h = ap (λ c. Op.Assume c) (operand_back 1 c one_is_width h)
+  op_back n (Op.Part width pair index) h next = ap (λ v. Op.Part width v index) (value_back pair h.1)
+  op_back n (Op.Assume c) h next = ap (λ c. Op.Assume c) (operand_back 1 c one_is_width h)
+  op_back n (Op.Call width place) h next =
+      call_back n width (slice_get f.calls place) ∙ ap (λ k. Op.Call width k) (sym (next place refl))
+
+  -- the calls themselves
+  argument_back : (a : CallArg) → PrintableArgument f a → argument_of (shown_scope f) (argument_tree (shown_scope f) a) ≡ a
+  argument_back a h =
+      let value = operand_back a.width a.value h.width h.value in λ i. record { width = a.width; words = a.words; value = value i }
+
+  arguments_back :
+      (args : List CallArg) → AllByRecursion (PrintableArgument f) args →
+      map (argument_of (shown_scope f)) (map (argument_tree (shown_scope f)) args) ≡ args
+  arguments_back [] h = refl
+  arguments_back (a ∷ args) h =
+      let first = argument_back a h.0 in let left = arguments_back args h.1 in λ i. first i ∷ left i
+
+  -- the call that an operation makes
+  pub made_back :
+      (op : Op) → ((k : ℕ) → call_place op ≡ Some k → k < length f.calls) →
+      call_of (shown_scope f) (op_tree (shown_scope f) f.calls op) ≡ option_and_then (slice_get f.calls) (call_place op)
+  made_back (Op.Bin _ _ _ _ _) inside = refl
+  made_back (Op.Icmp _ _ _ _ _) inside = refl
+  made_back (Op.Select _ _ _ _) inside = refl
+  made_back (Op.Cast _ _ _ _ _) inside = refl
+  made_back (Op.Freeze _ _) inside = refl
+  made_back (Op.Two _ _ _ _) inside = refl
+  made_back (Op.One _ _ _ _) inside = refl
+  made_back (Op.Over _ _ _ _) inside = refl
+  made_back (Op.Part _ _ _) inside = refl
+  made_back (Op.Assume _) inside = refl
+  made_back (Op.Call width place) inside = by (slice_get f.calls place) refl
+    where
+      by :
+          (o : Option CallOp) → slice_get f.calls place ≡ o →
+          call_of (shown_scope f) (call_tree (shown_scope f) width o) ≡ o
+      by None e = absurd (place_some f.calls place (inside place refl) e)
+      by (Some c) e =
+          let call = each_at (PrintableCall f) f.calls place c (each_call f printable) e in
+          let args = arguments_back c.args (recursion_from_All (PrintableArgument f) c.args call.arguments) in
+          λ i. Some (record { callee = c.callee; words = c.words; args = args i })
 
   pub term_back : (t : Term) → PrintableTerm f t → term_of (shown_scope f) (term_tree (shown_scope f) t) ≡ t
   term_back (Term.Ret width a) h = ap (λ a. Term.Ret width a) (operand_back width a h.0 h.1)

@@ -1,5 +1,5 @@
 -- A function that some text reads as has what the printer needs.
-use Rattle.std.proofs.Common.{◌≡◌, ◌∙◌, ℕ, zero, suc, List, [], ◌∷◌, ◌++◌, length, take, drop, map, All, IsTrue, None, refl, sym, ap, subst}
+use Rattle.std.proofs.Common.{◌≡◌, ◌∙◌, ℕ, zero, suc, List, [], ◌∷◌, ◌++◌, length, take, drop, map, flat_map, ◌+◌, All, IsTrue, None, refl, sym, ap, subst}
 use Rattle.std.proofs.Math.Seq.{take-append_seam, drop-append_seam}
 use Rattle.std.proofs.lemmas.List.Elements.{All-from_recursion, recursion_from_All}
 use Rattle.std.specs.List.{AllByRecursion}
@@ -10,16 +10,17 @@ use Rattle.vfa_ir.specs.declared.syntax.Parameter.{Parameter}
 use Rattle.vfa_ir.specs.declared.tokens.Token.{Token}
 use Rattle.vfa_ir.specs.DefinedNames.{block_names, duplicate_of, unknown_of, uses, value_names}
 use Rattle.vfa_ir.specs.Grammar.{FitsBlock, FitsBlocks, FitsParameter, FitsSentence, is_balanced, may_follow_parameters}
-use Rattle.vfa_ir.specs.Printable.{IsPrintable, IsTail, PrintableBlock}
+use Rattle.vfa_ir.specs.Printable.{IsPrintable, IsTail, PrintableBlock, PrintableCall}
 use Rattle.vfa_ir.specs.Reads.{Fit, tail_bytes}
-use Rattle.vfa_ir.specs.Resolution.{block_of, function_of, params_from, scope_of}
+use Rattle.vfa_ir.specs.Resolution.{Scope, block_calls, blocks_of, call_count, function_of, params_from, scope_of}
 use Rattle.vfa_ir.specs.Sentence.{Sentence}
 use Rattle.vfa_ir.specs.Spelling.{header, spelling}
 use Rattle.vfa_ir.specs.TokenLexemes.{lexemes, token_lexeme}
 use Rattle.vfa_ir.specs.Tokens.{tokens_of}
 use Rattle.vfa_ir.specs.Words.{is_among, parameter_words}
 use Rattle.vfa_print.proofs.NamesInOrder.{ids_in_order, kept_once, length-map, types_of, values_length}
-use Rattle.vfa_print.proofs.NamesOfText.{HasName, kept_names_some, lexemes_some, name_some}
+use Rattle.vfa_print.proofs.NamesOfText.{HasName, kept_names_some, lexemes_some, name_some, of_blocks}
+use Rattle.vfa_print.proofs.PrintableCalls.{calls_are, places_are}
 use Rattle.vfa_print.proofs.PrintableParts.{all_known, blocks_are}
 use Rattle.vfa_print.proofs.TokensCut.{read_part}
 
@@ -63,7 +64,11 @@ blocks_fit : (bs : List BasicBlock) → FitsBlocks bs → AllByRecursion FitsBlo
 blocks_fit [] fits = absurd fits
 blocks_fit (b ∷ bs) fits = recursion_from_All FitsBlock (b ∷ bs) fits.0
 
-some_block : (s : Sentence) (bs : List BasicBlock) → FitsBlocks bs → map (block_of (scope_of s)) bs ≡ [] → ⊥
+blocks_counted : (scope : Scope) (n : ℕ) (bs : List BasicBlock) → length (blocks_of scope n bs) ≡ length bs
+blocks_counted scope n [] = refl
+blocks_counted scope n (b ∷ bs) = ap suc (blocks_counted scope (n + call_count b) bs)
+
+some_block : (s : Sentence) (bs : List BasicBlock) → FitsBlocks bs → blocks_of (scope_of s) 0 bs ≡ [] → ⊥
 some_block s [] fits e = absurd fits
 some_block s (b ∷ bs) fits e = cc
 
@@ -83,20 +88,25 @@ sentence_printable text s fits e distinct known =
     let f : Function = function_of s tail in
     let blocks : AllByRecursion FitsBlock s.blocks = blocks_fit s.blocks fits.blocks in
     let names : AllByRecursion HasName (spelling s) = subst (AllByRecursion HasName) (sym e) (lexemes_some text (tokens_of text)) in
-    let block_count : length (block_names s) ≡ length f.blocks = length-map _ s.blocks ∙ sym (length-map (block_of (scope_of s)) s.blocks) in
-    let parts = blocks_are f (scope_of s) (sym (values_length s tail)) block_count s.blocks blocks (all_known (value_names s) (block_names s) (uses s) known) in
+    let block_count : length (block_names s) ≡ length f.blocks = length-map _ s.blocks ∙ sym (blocks_counted (scope_of s) 0 s.blocks) in
+    let value_count : length (value_names s) ≡ length f.values = sym (values_length s tail) in
+    let used = all_known (value_names s) (block_names s) (uses s) known in
+    let parts = blocks_are f (scope_of s) value_count block_count 0 s.blocks blocks used in
+    let calls = calls_are f (scope_of s) value_count block_count s.blocks blocks used (of_blocks s names) in
     record {
       name = name_some s names;
       lead = fits.lead;
       width = fits.width;
       words = All-from_recursion ItsWords (params_from 0 s.parameters) (params_words 0 s.parameters (recursion_from_All FitsParameter s.parameters fits.parameters));
       tail = tail_is text s fits e;
-      ids = ids_in_order s tail blocks distinct;
-      types = types_of s tail fits.parameters blocks;
+      ids = ids_in_order s tail distinct;
+      types = types_of s tail fits.parameters;
       names = kept_names_some s names tail;
       distinct = kept_once s tail distinct;
       some = some_block s s.blocks fits.blocks;
-      blocks = All-from_recursion (PrintableBlock f) (map (block_of (scope_of s)) s.blocks) parts;
+      blocks = All-from_recursion (PrintableBlock f) (blocks_of (scope_of s) 0 s.blocks) parts;
+      call_places = places_are (scope_of s) 0 s.blocks;
+      calls = All-from_recursion (PrintableCall f) (flat_map (block_calls (scope_of s)) s.blocks) calls;
     }
 
 pub fit_is_printable : (f : Function) → Fit f → IsPrintable f

@@ -5,15 +5,15 @@ use Rattle.std.proofs.lemmas.List.Elements.{recursion_from_All}
 use Rattle.std.specs.List.{AllByRecursion}
 use Rattle.vfa_ir.specs.declared.syntax.BasicBlock.{BasicBlock}
 use Rattle.vfa_ir.specs.declared.syntax.SwitchCase.{SwitchCase}
-use Rattle.vfa_ir.specs.declared.syntax.Transfer.{Transfer}
+use Rattle.vfa_ir.specs.declared.syntax.TerminatorKind.{TerminatorKind}
 use Rattle.vfa_ir.specs.Lexemes.{Lexeme, label, word}
-use Rattle.vfa_ir.specs.Spelling.{open_square, close_square, comma, typed, target, switch_case, transfer, line, block_label, terminator, attachments}
+use Rattle.vfa_ir.specs.Spelling.{open_square, close_square, comma, typed, target, switch_case, terminator_kind, phi, instruction, block_label, terminator, attachments}
 use Rattle.vfa_ir.specs.Spelling as spell
 use Rattle.vfa_ir.specs.Tokens.{is_blank}
 use Rattle.vfa_print.proofs.Found.{Gives, gives_more, gives_nothing}
 use Rattle.vfa_print.proofs.Lexed.{IsLexed, IsLexedBlock}
 use Rattle.vfa_print.proofs.PrintedLines.{blanks_give, line_gives}
-use Rattle.vfa_print.specs.Layout.{text_line, indented, line_feed, switch_front, transfer_text, label_text, block_text, blocks_text}
+use Rattle.vfa_print.specs.Layout.{text_line, indented, line_feed, switch_front, terminator_text, label_text, block_text, blocks_text}
 
 pub all_split :
     {X : Type 0} (P : X → Type 0) (xs ys : List X) → AllByRecursion P (xs ++ ys) → AllByRecursion P xs × AllByRecursion P ys
@@ -28,7 +28,7 @@ all_flat P f (x ∷ xs) h =
     let parts : AllByRecursion P (f x) × AllByRecursion P (flat_map f xs) = all_split P (f x) (flat_map f xs) h in
     (parts.0, all_flat P f xs parts.1)
 
--- texts one behind the other
+-- texts one after the other
 flat_gives :
     {A : Type 0} (P : A → Type 0) (text : A → List ℕ) (spelled : A → List Lexeme) →
     ((x : A) (rest : List ℕ) → P x → Gives (text x) rest (spelled x)) → (xs : List A) (rest : List ℕ) →
@@ -74,17 +74,17 @@ switch_gives width on default cases rest lexed =
     (switch_case width) (case_gives width) cases _ (all_flat IsLexed (switch_case width) cases parts.0))
     (indented_gives (close_square ∷ []) rest parts.1))
 
-transfer_gives : (t : Transfer) (rest : List ℕ) → AllByRecursion IsLexed (transfer t) → Gives (transfer_text t) rest (transfer t)
-transfer_gives (Transfer.Switch width on default cases) rest lexed =
+terminator_gives : (t : TerminatorKind) (rest : List ℕ) → AllByRecursion IsLexed (terminator_kind t) → Gives (terminator_text t) rest (terminator_kind t)
+terminator_gives (TerminatorKind.Switch width on default cases) rest lexed =
     let parts = switch_parts width (typed width on) default (flat_map (switch_case width) cases ++ (close_square ∷ [])) in
-    let text : List ℕ = transfer_text (Transfer.Switch width on default cases) in
+    let text : List ℕ = terminator_text (TerminatorKind.Switch width on default cases) in
     subst (λ ls. Gives text rest ls) parts
     (switch_gives width (typed width on) default cases rest (subst (AllByRecursion IsLexed) (sym parts) lexed))
-transfer_gives (Transfer.Return width a) rest lexed = indented_gives (transfer (Transfer.Return width a)) rest lexed
-transfer_gives (Transfer.Always to) rest lexed = indented_gives (transfer (Transfer.Always to)) rest lexed
-transfer_gives (Transfer.Condition c taken fallen) rest lexed =
-    indented_gives (transfer (Transfer.Condition c taken fallen)) rest lexed
-transfer_gives Transfer.Unreachable rest lexed = indented_gives (transfer Transfer.Unreachable) rest lexed
+terminator_gives (TerminatorKind.Return width a) rest lexed = indented_gives (terminator_kind (TerminatorKind.Return width a)) rest lexed
+terminator_gives (TerminatorKind.Always to) rest lexed = indented_gives (terminator_kind (TerminatorKind.Always to)) rest lexed
+terminator_gives (TerminatorKind.Condition c taken fallen) rest lexed =
+    indented_gives (terminator_kind (TerminatorKind.Condition c taken fallen)) rest lexed
+terminator_gives TerminatorKind.Unreachable rest lexed = indented_gives (terminator_kind TerminatorKind.Unreachable) rest lexed
 
 label_gives :
     (name : Option (List ℕ)) (rest : List ℕ) → AllByRecursion IsLexed (block_label name) →
@@ -92,26 +92,35 @@ label_gives :
 label_gives None rest lexed = gives_nothing rest
 label_gives (Some name) rest lexed = line_gives [] (label name ∷ []) rest refl lexed
 
-bare_terminator : (b : BasicBlock) → b.terminator.attached ≡ [] → terminator b.terminator ≡ transfer b.terminator.transfer
-bare_terminator b h = rw h (append-nil (transfer b.terminator.transfer))
+lines_give :
+    {A : Type 0} (spelled : A → List Lexeme) (xs : List A) (rest : List ℕ) → AllByRecursion IsLexed (flat_map spelled xs) →
+    Gives (flat_map (λ x. indented (spelled x)) xs) rest (flat_map spelled xs)
+lines_give spelled xs rest lexed =
+    flat_gives (λ x. AllByRecursion IsLexed (spelled x)) (λ x. indented (spelled x)) spelled (λ x. indented_gives (spelled x)) xs rest
+    (all_flat IsLexed spelled xs lexed)
+
+bare_terminator : (b : BasicBlock) → b.terminator.attached ≡ [] → terminator b.terminator ≡ terminator_kind b.terminator.kind
+bare_terminator b h = rw h (append-nil (terminator_kind b.terminator.kind))
 
 pub block_gives : (b : BasicBlock) (rest : List ℕ) → IsLexedBlock b → Gives (block_text b) rest (spell.block b)
 block_gives b rest lexed =
-    let bare : terminator b.terminator ≡ transfer b.terminator.transfer = bare_terminator b lexed.bare in
+    let bare : terminator b.terminator ≡ terminator_kind b.terminator.kind = bare_terminator b lexed.bare in
     let all : AllByRecursion IsLexed (spell.block b) = recursion_from_All IsLexed (spell.block b) lexed.tokens in
-    let lines : List Lexeme = flat_map line b.lines in
-    let last : List Lexeme = transfer b.terminator.transfer in
-    let outer : AllByRecursion IsLexed (block_label b.label) × AllByRecursion IsLexed (lines ++ terminator b.terminator) =
+    let phis : List Lexeme = flat_map phi b.phis in
+    let insts : List Lexeme = flat_map instruction b.instructions in
+    let last : List Lexeme = terminator_kind b.terminator.kind in
+    let outer : AllByRecursion IsLexed (block_label b.label) × AllByRecursion IsLexed (phis ++ (insts ++ terminator b.terminator)) =
     all_split IsLexed (block_label b.label) _ all in
-    let parts : AllByRecursion IsLexed lines × AllByRecursion IsLexed (terminator b.terminator) = all_split IsLexed lines _ outer.1 in
-    subst (λ ls. Gives (block_text b) rest (block_label b.label ++ (lines ++ ls))) (sym bare)
-    (gives_more (label_text b.label) _ rest (block_label b.label) (lines ++ last) (label_gives b.label _ outer.0)
-    (gives_more (flat_map (λ l. indented (line l)) b.lines) (transfer_text b.terminator.transfer) rest lines last
-    (flat_gives (λ l. AllByRecursion IsLexed (line l)) (λ l. indented (line l)) line (λ l. indented_gives (line l)) b.lines _
-    (all_flat IsLexed line b.lines parts.0))
-    (transfer_gives b.terminator.transfer rest (subst (AllByRecursion IsLexed) bare parts.1))))
+    let inner : AllByRecursion IsLexed phis × AllByRecursion IsLexed (insts ++ terminator b.terminator) = all_split IsLexed phis _ outer.1 in
+    let parts : AllByRecursion IsLexed insts × AllByRecursion IsLexed (terminator b.terminator) = all_split IsLexed insts _ inner.1 in
+    subst (λ ls. Gives (block_text b) rest (block_label b.label ++ (phis ++ (insts ++ ls)))) (sym bare)
+    (gives_more (label_text b.label) _ rest (block_label b.label) (phis ++ (insts ++ last)) (label_gives b.label _ outer.0)
+    (gives_more (flat_map (λ p. indented (phi p)) b.phis) _ rest phis (insts ++ last) (lines_give phi b.phis _ inner.0)
+    (gives_more (flat_map (λ i. indented (instruction i)) b.instructions) (terminator_text b.terminator.kind) rest insts last
+    (lines_give instruction b.instructions _ parts.0)
+    (terminator_gives b.terminator.kind rest (subst (AllByRecursion IsLexed) bare parts.1)))))
 
--- blocks behind the first have an empty line before them
+-- blocks after the first have an empty line before them
 further_gives : (b : BasicBlock) (rest : List ℕ) → IsLexedBlock b → Gives (line_feed ++ block_text b) rest (spell.block b)
 unfolding is_blank
 further_gives b rest lexed =

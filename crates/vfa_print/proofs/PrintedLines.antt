@@ -29,7 +29,7 @@ blank_gives true true rest = blanks_give (32 ∷ []) rest refl
 blank_gives true false rest = gives_nothing rest
 blank_gives false before rest = gives_nothing rest
 
--- what stands behind a lexeme that takes a blank ends it
+-- what follows a lexeme that takes a blank ends it
 mark_ends : (c : ℕ) (rest : List ℕ) → (c == 40 || c == 41 || c == 44) ≡ true → IsTrue (ends_token (c ∷ rest))
 unfolding is_run_byte is_letter is_digit
 mark_ends c rest h =

@@ -1,6 +1,5 @@
 -- The tree of a function defines each name once, uses names that it defines, and is the tree of that function.
-use Rattle.std.proofs.Common.{◌≡◌, ◌+◌, ◌<◌, ◌^◌, length, arith, None, decimal, refl}
-use Rattle.std.specs.Fmt.{digits}
+use Rattle.std.proofs.Common.{◌≡◌, None}
 use Rattle.vfa_ir.specs.declared.functions.Function.{Function}
 use Rattle.vfa_ir.specs.DefinedNames.{duplicate_of, unknown_of}
 use Rattle.vfa_ir.specs.Printable.{IsPrintable}
@@ -19,12 +18,3 @@ tree_known f printable = uses_known f printable
 
 pub tree_back : (f : Function) → IsPrintable f → HasFewNames f → function_of (tree_of f) f.tail ≡ f
 tree_back f printable few = function_back f printable few
-
--- lists in memory are as short as that
-pub few_names : (f : Function) → length f.values < 2 ^ 64 → length f.blocks < 2 ^ 64 → HasFewNames f
-few_names f values blocks = omega (arith, values, blocks)
-
--- decimals are exact below 10 ^ 64 alone
-numbers_meet : decimal (10 ^ 63) ≡ decimal (10 ^ 64 + 10 ^ 63)
-unfolding digits
-numbers_meet = refl

@@ -20,7 +20,7 @@ use Rattle.vfa_print.proofs.PrintedLines.{blanks_give, written_gives}
 use Rattle.vfa_print.proofs.PrintedTail.{moved, moved_bytes, tail_gives, tail_tokens, tokens_within}
 use Rattle.vfa_print.specs.Layout.{written, line_feed, blocks_text, tail_text, sentence_text}
 
--- the parts of the text behind the header
+-- the parts of the text after the header
 abbrev pub body_text : Sentence → List ℕ
 body_text s = codes " {" ++ (line_feed ++ (blocks_text s.blocks ++ codes "}"))
 

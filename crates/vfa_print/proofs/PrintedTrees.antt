@@ -6,10 +6,10 @@ use Rattle.vfa_print.specs.Trees.{shown_scope, tree_of}
 use Rattle.vfa_print.proofs.FittingTrees.{scoped_tree_fits}
 use Rattle.vfa_print.proofs.Lexed.{IsLexedTree}
 use Rattle.vfa_print.proofs.LexedTrees.{scoped_tree_lexed}
-use Rattle.vfa_print.proofs.NamesInScope.{has_names}
+use Rattle.vfa_print.proofs.NamesInScope.{each_call, has_names}
 
 pub tree_fits : (f : Function) → IsPrintable f → FitsSentence (tree_of f)
-tree_fits f h = scoped_tree_fits f (shown_scope f) h
+tree_fits f h = scoped_tree_fits f (shown_scope f) (each_call f h) h
 
 pub tree_lexed : (f : Function) → IsPrintable f → IsLexedTree (tree_of f)
-tree_lexed f h = scoped_tree_lexed f (shown_scope f) (has_names f h) h
+tree_lexed f h = scoped_tree_lexed f (shown_scope f) (has_names f h) (each_call f h) h

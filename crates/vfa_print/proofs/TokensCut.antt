@@ -14,7 +14,7 @@ read_on b place line bs (gap more) = tokens_behind more (place + 1) (line + line
 read_on b place line bs (token kind more) =
     record { kind = kind; start = place; end = place + 1 + more; line = line } ∷ tokens_behind more (place + 1) (line + line_feed b) bs
 
--- the first token ends behind what is passed over
+-- the first token ends after what is passed over
 first_behind : (skip place line : ℕ) (bs : List ℕ) (t : Token) → first (tokens_behind skip place line bs) ≡ Some t → place + skip < t.end
 first_behind skip place line [] t h = absurd (cc)
 first_behind (suc skip) place line (b ∷ bs) t h =
@@ -31,7 +31,7 @@ first_behind zero place line (b ∷ bs) t h = go (piece_of b bs) h (λ more. fir
         let end : place + 1 + more ≡ t.end = ap (λ u. u.end) same in
         omega arith
 
--- it is the same where the bytes behind it are cut off
+-- it is the same where the bytes after it are cut off
 first_cut :
     (skip place line : ℕ) (front back : List ℕ) (t : Token) → first (tokens_behind skip place line (front ++ back)) ≡ Some t →
     t.end ≤ place + length front → first (tokens_behind skip place line front) ≡ Some t

@@ -2,9 +2,9 @@
 use Rattle.std.proofs.Common.{◌≡◌, ◌∙◌, ℕ, zero, suc, ◌+◌, ◌<◌, ◌≤◌, ◌==◌, ◌&&◌, ◌||◌, Bool, false, if◌then◌else◌, List, [], ◌∷◌, ◌++◌, map, flat_map, length, Option, Some, None, is_none, option_map, unwrap_or, decimal, count_by, filter_map, option_and_then, slice_get, ne_eqb, refl, sym, ap, ap₂, subst, arith, add-one}
 use Rattle.std.specs.List.{AllByRecursion, cons_option, range_with_len}
 use Rattle.std.proofs.lemmas.List.{map-append}
-use Rattle.std.proofs.lemmas.List.Elements.{filter_map-append}
 use Rattle.std.proofs.lemmas.List.Sums.{sum_by-cons}
 use Rattle.vfa_ir.specs.declared.functions.Block.{Block}
+use Rattle.vfa_ir.specs.declared.functions.CallOp.{CallOp}
 use Rattle.vfa_ir.specs.declared.functions.Function.{Function}
 use Rattle.vfa_ir.specs.declared.functions.Inst.{Inst}
 use Rattle.vfa_ir.specs.declared.functions.Param.{Param}
@@ -12,8 +12,7 @@ use Rattle.vfa_ir.specs.declared.functions.Phi.{Phi}
 use Rattle.vfa_ir.specs.declared.functions.Value.{Value}
 use Rattle.vfa_ir.specs.declared.numbering.Local.{Local}
 use Rattle.vfa_ir.specs.declared.operations.ValueId.{ValueId}
-use Rattle.vfa_ir.specs.declared.syntax.Line.{Line}
-use Rattle.vfa_ir.specs.DefinedNames.{block_name, block_names, block_results, defined_names, duplicate_of, first_repeated, is_numbered, line_result, parameter_names, value_names}
+use Rattle.vfa_ir.specs.DefinedNames.{block_name, block_names, block_results, defined_names, duplicate_of, first_repeated, is_numbered, parameter_names, value_names}
 use Rattle.vfa_ir.specs.Printable.{IsPrintable, block_ids, ids_of, inst_ids}
 use Rattle.vfa_ir.specs.Resolution.{Scope, scope_of}
 use Rattle.vfa_ir.specs.Sentence.{Sentence}
@@ -55,7 +54,7 @@ pub local_shown : (f : Function) (a : Local) → IsLocal f a → local_name (sho
 local_shown f (Local.Value v) h = name_at-range (shown_value_name f) (length f.values) v h
 local_shown f (Local.Block b) h = name_at-range (shown_block_name f) (length f.blocks) b h
 
-module _ (scope : Scope) where
+module _ (scope : Scope) (calls : List CallOp) where
   named_parameters :
       (values : List Value) (k : ℕ) (ps : List Param) →
       parameter_names k (map (parameter_tree scope values) ps) ≡ map (local_name scope) (param_locals ps)
@@ -68,7 +67,7 @@ module _ (scope : Scope) where
   parameter_ids [] = refl
   parameter_ids (p ∷ ps) = ap (λ l. name_at scope.values p.value.0 ∷ l) (parameter_ids ps)
 
-  named_phis : (ps : List Phi) → filter_map line_result (map (λ p. Line.Phi (phi_tree scope p)) ps) ≡ map (local_name scope) (phi_locals ps)
+  named_phis : (ps : List Phi) → map (λ p. p.result) (map (phi_tree scope) ps) ≡ map (local_name scope) (phi_locals ps)
   named_phis [] = refl
   named_phis (p ∷ ps) = ap (λ l. name_at scope.values p.result.0 ∷ l) (named_phis ps)
 
@@ -76,12 +75,12 @@ module _ (scope : Scope) where
   phi_names [] = refl
   phi_names (p ∷ ps) = ap (λ l. name_at scope.values p.result.0 ∷ l) (phi_names ps)
 
-  named_results : (is : List Inst) → filter_map line_result (map (λ i. Line.Plain (inst_tree scope i)) is) ≡ map (local_name scope) (results_of is)
+  named_results : (is : List Inst) → filter_map (λ i. i.result) (map (inst_tree scope calls) is) ≡ map (local_name scope) (results_of is)
   named_results [] = refl
   named_results (i ∷ is) = by i.result (named_results is)
     where
       rest : List (List ℕ)
-      rest = filter_map line_result (map (λ i. Line.Plain (inst_tree scope i)) is)
+      rest = filter_map (λ i. i.result) (map (inst_tree scope calls) is)
 
       by :
           (r : Option ValueId) → rest ≡ map (local_name scope) (results_of is) →
@@ -101,19 +100,18 @@ module _ (scope : Scope) where
       by None e = e
       by (Some v) e = ap (λ l. name_at scope.values v.0 ∷ l) e
 
-  named_lines : (place : ℕ) (b : Block) → block_results (block_tree scope place b) ≡ map (local_name scope) (phi_locals b.phis ++ results_of b.insts)
+  named_lines : (place : ℕ) (b : Block) → block_results (block_tree scope calls place b) ≡ map (local_name scope) (phi_locals b.phis ++ results_of b.insts)
   named_lines place b =
-      filter_map-append line_result (map (λ p. Line.Phi (phi_tree scope p)) b.phis) (map (λ i. Line.Plain (inst_tree scope i)) b.insts)
-      ∙ ap₂ (λ x y. x ++ y) (named_phis b.phis) (named_results b.insts)
+      ap₂ (λ x y. x ++ y) (named_phis b.phis) (named_results b.insts)
       ∙ sym (map-append (local_name scope) (phi_locals b.phis) (results_of b.insts))
 
-  pub line_ids : (place : ℕ) (b : Block) → block_results (block_tree scope place b) ≡ map (name_at scope.values) (block_ids b)
+  pub line_ids : (place : ℕ) (b : Block) → block_results (block_tree scope calls place b) ≡ map (name_at scope.values) (block_ids b)
   line_ids place b =
       named_lines place b ∙ map-append (local_name scope) (phi_locals b.phis) (results_of b.insts)
       ∙ ap₂ (λ x y. x ++ y) (phi_names b.phis) (result_names b.insts)
       ∙ sym (map-append (name_at scope.values) (map (λ p. p.result.0) b.phis) (inst_ids b.insts))
 
-  blocks_ids : (place : ℕ) (bs : List Block) → flat_map block_results (blocks_tree scope place bs) ≡ map (name_at scope.values) (flat_map block_ids bs)
+  blocks_ids : (place : ℕ) (bs : List Block) → flat_map block_results (blocks_tree scope calls place bs) ≡ map (name_at scope.values) (flat_map block_ids bs)
   blocks_ids place [] = refl
   blocks_ids place (b ∷ bs) =
       ap₂ (λ x y. x ++ y) (line_ids place b) (blocks_ids (suc place) bs)
@@ -136,7 +134,7 @@ module _ (scope : Scope) where
 
   labels :
       (s : Sentence) (place : ℕ) (bs : List Block) → 0 < place →
-      map (block_name s) (blocks_tree scope place bs) ≡ map (name_at scope.blocks) (range_with_len place (length bs))
+      map (block_name s) (blocks_tree scope calls place bs) ≡ map (name_at scope.blocks) (range_with_len place (length bs))
   labels s place [] h = refl
   labels s place (b ∷ bs) h =
       ap₂ (λ x xs. x ∷ xs) (label_is place b (decimal (count_by is_numbered s.parameters)) (λ e. absurd (omega arith)))
@@ -144,7 +142,7 @@ module _ (scope : Scope) where
 
   named_blocks :
       (s : Sentence) (place : ℕ) (bs : List Block) → 0 < place →
-      flat_map (λ b. block_name s b ∷ block_results b) (blocks_tree scope place bs) ≡ map (local_name scope) (locals_of_blocks place bs)
+      flat_map (λ b. block_name s b ∷ block_results b) (blocks_tree scope calls place bs) ≡ map (local_name scope) (locals_of_blocks place bs)
   named_blocks s place [] h = refl
   named_blocks s place (b ∷ bs) h =
       ap₂ (λ x xs. x ++ xs)
@@ -159,14 +157,14 @@ module _ (scope : Scope) where
 
   all_labels :
       (s : Sentence) (bs : List Block) → IsEntryNumber bs (decimal (count_by is_numbered s.parameters)) →
-      map (block_name s) (blocks_tree scope 0 bs) ≡ map (name_at scope.blocks) (range_with_len 0 (length bs))
+      map (block_name s) (blocks_tree scope calls 0 bs) ≡ map (name_at scope.blocks) (range_with_len 0 (length bs))
   all_labels s [] h = refl
   all_labels s (b ∷ bs) h =
       ap₂ (λ x xs. x ∷ xs) (label_is 0 b (decimal (count_by is_numbered s.parameters)) (λ _. h)) (labels s 1 bs (omega arith))
 
   all_named_blocks :
       (s : Sentence) (bs : List Block) → IsEntryNumber bs (decimal (count_by is_numbered s.parameters)) →
-      flat_map (λ b. block_name s b ∷ block_results b) (blocks_tree scope 0 bs) ≡ map (local_name scope) (locals_of_blocks 0 bs)
+      flat_map (λ b. block_name s b ∷ block_results b) (blocks_tree scope calls 0 bs) ≡ map (local_name scope) (locals_of_blocks 0 bs)
   all_named_blocks s [] h = refl
   all_named_blocks s (b ∷ bs) h =
       ap₂ (λ x xs. x ++ xs)
@@ -194,10 +192,10 @@ numbered_parameters f printable rest (p ∷ ps) h =
 shown_number : (f : Function) (a : Local) → name_of f a ≡ None → shown_name f a ≡ decimal (number_of f a)
 shown_number f a e = ap (λ o. elim o [ None ↦ decimal (number_of f a) | Some name ↦ name ]) e
 
-entry_number : (f : Function) → IsPrintable f → IsEntryNumber (shown_scope f) f.blocks (decimal (count_by is_numbered (tree_of f).parameters))
+entry_number : (f : Function) → IsPrintable f → IsEntryNumber (shown_scope f) f.calls f.blocks (decimal (count_by is_numbered (tree_of f).parameters))
 entry_number f printable = by f.blocks refl
   where
-    by : (bs : List Block) → f.blocks ≡ bs → IsEntryNumber (shown_scope f) bs (decimal (count_by is_numbered (tree_of f).parameters))
+    by : (bs : List Block) → f.blocks ≡ bs → IsEntryNumber (shown_scope f) f.calls bs (decimal (count_by is_numbered (tree_of f).parameters))
     by [] e = tt
     by (b ∷ bs) e = λ none.
         let ids = (all_parts (λ i. i < length f.values) _ _ (ids_within f printable)).0 in
@@ -214,13 +212,13 @@ entry_number f printable = by f.blocks refl
 pub tree_values : (f : Function) → IsPrintable f → value_names (tree_of f) ≡ (shown_scope f).values
 tree_values f printable =
     let scope = shown_scope f in
-    ap₂ (λ x y. x ++ y) (named_parameters scope f.values 0 f.params ∙ parameter_ids scope f.params) (blocks_ids scope 0 f.blocks)
+    ap₂ (λ x y. x ++ y) (named_parameters scope f.calls f.values 0 f.params ∙ parameter_ids scope f.calls f.params) (blocks_ids scope f.calls 0 f.blocks)
     ∙ sym (map-append (name_at scope.values) (map (λ p. p.value.0) f.params) (flat_map block_ids f.blocks))
     ∙ ap (map (name_at scope.values)) printable.ids ∙ names_of_range (shown_value_name f) (length f.values)
 
 pub tree_blocks : (f : Function) → IsPrintable f → block_names (tree_of f) ≡ (shown_scope f).blocks
 tree_blocks f printable =
-    all_labels (shown_scope f) (tree_of f) f.blocks (entry_number f printable)
+    all_labels (shown_scope f) f.calls (tree_of f) f.blocks (entry_number f printable)
     ∙ names_of_range (shown_block_name f) (length f.blocks)
 
 pub tree_scope : (f : Function) → IsPrintable f → scope_of (tree_of f) ≡ shown_scope f
@@ -232,7 +230,7 @@ tree_scope f printable =
 pub tree_names : (f : Function) → IsPrintable f → defined_names (tree_of f) ≡ map (local_name (shown_scope f)) (locals_of f)
 tree_names f printable =
     let scope = shown_scope f in
-    ap₂ (λ x y. x ++ y) (named_parameters scope f.values 0 f.params) (all_named_blocks scope (tree_of f) f.blocks (entry_number f printable))
+    ap₂ (λ x y. x ++ y) (named_parameters scope f.calls f.values 0 f.params) (all_named_blocks scope f.calls (tree_of f) f.blocks (entry_number f printable))
     ∙ sym (map-append (local_name scope) (param_locals f.params) (locals_of_blocks 0 f.blocks))
 
 pub local_alike :

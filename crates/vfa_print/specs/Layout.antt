@@ -1,12 +1,13 @@
 -- How a function is laid out: the text of each token, and the lines on which the tokens of each production stand
 -- (LLVM Language Reference, "Identifiers", "Functions" and "Instruction Reference").
-use Rattle.std.specs.Prelude.{ℕ, ◌+◌, ◌/◌, ◌%◌, ◌==◌, ◌&&◌, ◌||◌, Bool, true, false, not, nat_lt, List, [], ◌∷◌, ◌++◌, flat_map, if◌then◌else◌, Option, Some, None, codes}
+use Rattle.std.specs.Prelude.{ℕ, ◌+◌, ◌-◌, ◌/◌, ◌%◌, ◌==◌, ◌&&◌, ◌||◌, Bool, true, false, not, nat_lt, List, [], ◌∷◌, ◌++◌, flat_map, if◌then◌else◌, Option, Some, None, codes}
 use Rattle.std.specs.List.{list_all}
+use Rattle.std.specs.Str.{byte}
 use Rattle.vfa_ir.specs.declared.syntax.BasicBlock.{BasicBlock}
-use Rattle.vfa_ir.specs.declared.syntax.Transfer.{Transfer}
+use Rattle.vfa_ir.specs.declared.syntax.TerminatorKind.{TerminatorKind}
 use Rattle.vfa_ir.specs.Lexemes.{Lexeme, local, global, label, nameless_local, nameless_global, nameless_label, metadata, group, number, word, string, mark, other}
 use Rattle.vfa_ir.specs.Sentence.{Sentence}
-use Rattle.vfa_ir.specs.Spelling.{open_square, close_square, comma, typed, target, switch_case, transfer, line, header}
+use Rattle.vfa_ir.specs.Spelling.{open_square, close_square, comma, typed, target, switch_case, terminator_kind, phi, instruction, header}
 use Rattle.vfa_ir.specs.Tokens.{is_digit, is_run_byte}
 
 -- Names
@@ -21,16 +22,16 @@ is_plain name = list_all is_run_byte name && (not (begins_with_digit name) || li
 
 -- In quotes, the quote, the backslash and bytes outside 32 to 126 are `\` and two hexadecimal digits.
 abbrev pub hex_digit : ℕ → ℕ
-hex_digit n = if nat_lt n 10 then 48 + n else 55 + n
+hex_digit n = if nat_lt n 10 then byte "0" + n else byte "A" - 10 + n
 
 unfoldable pub is_escaped : ℕ → Bool
-is_escaped b = b == 34 || b == 92 || nat_lt b 32 || (nat_lt 126 b && nat_lt b 256)
+is_escaped b = b == byte "\"" || b == byte "\\" || nat_lt b 32 || (nat_lt 126 b && nat_lt b 256)
 
 abbrev pub byte_text : ℕ → List ℕ
-byte_text b = if is_escaped b then 92 ∷ hex_digit (b / 16) ∷ hex_digit (b % 16) ∷ [] else b ∷ []
+byte_text b = if is_escaped b then byte "\\" ∷ hex_digit (b / 16) ∷ hex_digit (b % 16) ∷ [] else b ∷ []
 
 abbrev pub quoted_text : List ℕ → List ℕ
-quoted_text name = 34 ∷ (flat_map byte_text name ++ (34 ∷ []))
+quoted_text name = codes "\"" ++ (flat_map byte_text name ++ codes "\"")
 
 abbrev pub name_text : List ℕ → List ℕ
 name_text name = if is_plain name then name else quoted_text name
@@ -51,25 +52,25 @@ lexeme_text string = []
 lexeme_text (mark c) = c ∷ []
 lexeme_text other = []
 
--- Between two tokens of a line stands a blank, but not behind `(`, and not before `(`, `)` and `,`.
+-- Between two tokens of a line stands a blank, but not after `(`, and not before `(`, `)` and `,`.
 abbrev pub takes_blank_before : Lexeme → Bool
-takes_blank_before (mark c) = not (c == 40 || c == 41 || c == 44)
+takes_blank_before (mark c) = not (c == byte "(" || c == byte ")" || c == byte ",")
 takes_blank_before _ = true
 
 abbrev pub takes_blank_behind : Lexeme → Bool
-takes_blank_behind (mark c) = not (c == 40)
+takes_blank_behind (mark c) = not (c == byte "(")
 takes_blank_behind _ = true
 
 abbrev pub blank_between : Bool → Bool → List ℕ
 blank_between behind before = if behind && before then codes " " else []
 
--- tokens on one line, behind a token that takes a blank behind it, or not
+-- tokens on one line, after a token that takes a blank after it, or not
 abbrev pub written : Bool → List Lexeme → List ℕ
 written behind [] = []
 written behind (l ∷ rest) =
     blank_between behind (takes_blank_before l) ++ (lexeme_text l ++ written (takes_blank_behind l) rest)
 
--- whether what is behind these tokens takes a blank
+-- whether what follows these tokens takes a blank
 abbrev pub blank_behind : Bool → List Lexeme → Bool
 blank_behind behind [] = behind
 blank_behind behind (l ∷ rest) = blank_behind (takes_blank_behind l) rest
@@ -77,32 +78,35 @@ blank_behind behind (l ∷ rest) = blank_behind (takes_blank_behind l) rest
 -- Lines
 
 abbrev pub line_feed : List ℕ
-line_feed = 10 ∷ []
+line_feed = codes "\n"
 
--- a line of these tokens behind an indent
+-- a line of these tokens after an indent
 abbrev pub text_line : List ℕ → List Lexeme → List ℕ
 text_line indent ls = indent ++ (written false ls ++ line_feed)
 
 abbrev pub indented : List Lexeme → List ℕ
 indented = text_line (codes "  ")
 
--- the front of a switch, up to the bracket before its cases
+-- the first line of a switch, up to the bracket before its cases
 abbrev pub switch_front : ℕ → List Lexeme → List ℕ → List Lexeme
 switch_front width on default = word (codes "switch") ∷ (on ++ (comma ∷ (target default ++ (open_square ∷ []))))
 
 -- Blocks. A switch has each case on a line of its own.
-abbrev pub transfer_text : Transfer → List ℕ
-transfer_text (Transfer.Switch width on default cases) =
+abbrev pub terminator_text : TerminatorKind → List ℕ
+terminator_text (TerminatorKind.Switch width on default cases) =
     indented (switch_front width (typed width on) default)
     ++ (flat_map (λ c. text_line (codes "    ") (switch_case width c)) cases ++ indented (close_square ∷ []))
-transfer_text t = indented (transfer t)
+terminator_text t = indented (terminator_kind t)
 
 abbrev pub label_text : Option (List ℕ) → List ℕ
 label_text None = []
 label_text (Some name) = text_line [] (label name ∷ [])
 
 abbrev pub block_text : BasicBlock → List ℕ
-block_text b = label_text b.label ++ (flat_map (λ l. indented (line l)) b.lines ++ transfer_text b.terminator.transfer)
+block_text b =
+    label_text b.label
+    ++ (flat_map (λ p. indented (phi p)) b.phis
+    ++ (flat_map (λ i. indented (instruction i)) b.instructions ++ terminator_text b.terminator.kind))
 
 -- an empty line stands before each block but the first
 abbrev pub blocks_text : List BasicBlock → List ℕ
@@ -111,12 +115,12 @@ blocks_text (entry ∷ rest) = block_text entry ++ flat_map (λ b. line_feed ++ 
 
 -- Functions
 
--- the bytes between the parameters and the body, behind a blank
+-- the bytes between the parameters and the body, after a blank
 abbrev pub tail_text : List ℕ → List ℕ
 tail_text [] = []
 tail_text (b ∷ rest) = codes " " ++ (b ∷ rest)
 
--- the text of a tree with the bytes of its tail; no line feed stands behind the last brace
+-- the text of a tree with the bytes of its tail; no line feed follows the last brace
 abbrev pub sentence_text : Sentence → List ℕ → List ℕ
 sentence_text s tail =
     written false (header s) ++ (tail_text tail ++ (codes " {" ++ (line_feed ++ (blocks_text s.blocks ++ codes "}"))))

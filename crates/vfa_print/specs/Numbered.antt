@@ -5,7 +5,7 @@ use Rattle.vfa_ir.specs.declared.numbering.Local.{Local}
 use Rattle.vfa_ir.specs.Resolution.{Scope}
 use Rattle.vfa_ir.specs.Shown.{is_unnamed, name_of}
 
--- the number of the next without a name, behind this one
+-- the number of the next without a name, after this one
 abbrev pub next_number : Function → ℕ → Local → ℕ
 next_number f number local = if is_unnamed f local then number + 1 else number
 

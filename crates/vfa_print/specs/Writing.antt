@@ -3,7 +3,7 @@ use Rattle.std.specs.Prelude.{ℕ, Bool, false, List, [], ◌∷◌, ◌++◌}
 use Rattle.vfa_ir.specs.Lexemes.{Lexeme}
 use Rattle.vfa_print.specs.Layout.{blank_between, takes_blank_before, takes_blank_behind, lexeme_text}
 
--- the bytes so far, and whether what is behind them takes a blank
+-- the bytes so far, and whether what follows them takes a blank
 pub record Draft : Type 0 where
   pub text : List ℕ
   pub behind : Bool
@@ -20,6 +20,6 @@ abbrev pub with_tokens : Draft → List Lexeme → Draft
 with_tokens d [] = d
 with_tokens d (l ∷ rest) = with_tokens (with_token d l) rest
 
--- more bytes, behind which no blank is due
+-- more bytes, after which no blank is due
 abbrev pub with_bytes : Draft → List ℕ → Draft
 with_bytes d bytes = record { text = d.text ++ bytes; behind = false }

@@ -1,8 +1,7 @@
-//! The header of a function: from `define` to the `)` behind the parameters.
+//! The header of a function: from `define` to the `)` after the parameters.
 
 ghost use Rattle.std.specs.Prelude.{◌≡◌, ◌∷◌, ◌++◌, [], flat_map, map, IfOk};
 ghost use Rattle.std.specs.List.{join_by};
-ghost use Rattle.vfa_ir.specs.Lexemes.{word as word_lexeme};
 ghost use Rattle.vfa_ir.specs.Spelling.{comma, header as header_tokens, parameter as parameter_tokens};
 ghost use Rattle.vfa_print.specs.Trees.{parameter_tree, tree_with, width_at as width_of_value, width_of as width_of_type};
 ghost use Rattle.vfa_print.specs.Writing.{with_tokens};
@@ -10,7 +9,7 @@ ghost use Rattle.vfa_print.specs.Writing.{with_tokens};
 use crate::shown::ShownNames;
 use crate::writer::Writer;
 use std::alloc::AllocError;
-use vfa_ir::{Function, Name, Param, Ty, Value};
+use vfa_ir::{Function, Param, Ty, Value};
 
 fn width_of(ty: Ty) -> u32
     ensures { result ≡ width_of_type ty }
@@ -32,16 +31,6 @@ fn width_at(values: &[Value], place: usize) -> u32
 }
 
 #[tactic(auto, using(crate::proofs::Drafts::with_tokens_append))]
-fn push_words(w: &mut Writer, words: &[Name]) -> Result<(), AllocError>
-    ensures { IfOk result (λ _. w.new ≡ with_tokens w.old (map word_lexeme words.now)) }
-{
-    'words: for word in words {
-        w.word(word.bytes())?;
-    }
-    Ok(())
-}
-
-#[tactic(auto, using(crate::proofs::Drafts::with_tokens_append))]
 fn push_parameter(
     w: &mut Writer,
     names: &ShownNames,
@@ -51,11 +40,11 @@ fn push_parameter(
     ensures { IfOk result (λ _. w.new ≡ with_tokens w.old (parameter_tokens (parameter_tree names.now values.now param.now))) }
 {
     w.integer_type(width_at(values, param.value.0 as usize))?;
-    push_words(w, param.words.as_slice())?;
+    w.words(param.words.as_slice())?;
     w.local(names.value(param.value))
 }
 
-/// The parameters behind the first.
+/// The parameters after the first.
 #[tactic(auto, using(crate::proofs::Drafts::with_tokens_append))]
 fn push_further(
     w: &mut Writer,
@@ -96,7 +85,7 @@ pub fn push_header(w: &mut Writer, names: &ShownNames, f: &Function) -> Result<(
     ensures { IfOk result (λ _. w.new ≡ with_tokens w.old (header_tokens (tree_with names.now f.now))) }
 {
     w.word(b"define")?;
-    push_words(w, f.lead.as_slice())?;
+    w.words(f.lead.as_slice())?;
     w.integer_type(f.width)?;
     w.global(f.name.bytes())?;
     w.mark(b'(')?;

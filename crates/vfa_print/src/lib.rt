@@ -2,6 +2,7 @@
 #![tactic(auto)]
 
 mod blocks;
+mod calls;
 mod headers;
 mod laws;
 mod lines;
@@ -11,10 +12,9 @@ mod operands;
 mod operations;
 mod printing;
 mod shown;
+mod terminators;
 #[cfg(test)]
 mod tests;
-mod transfers;
-mod words;
 mod writer;
 
 pub use laws::{fit_is_printable, printable_is_fit, printed_reads_again};

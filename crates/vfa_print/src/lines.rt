@@ -1,11 +1,10 @@
 //! The lines of phis and of other instructions.
 
 ghost use Rattle.std.specs.Prelude.{◌≡◌, ◌∷◌, ◌++◌, [], codes, flat_map, map, option_map, Option, Some, IfOk};
-ghost use Rattle.vfa_ir.specs.declared.syntax.Line.{Line};
-ghost use Rattle.vfa_ir.specs.declared.syntax.PhiPart.{PhiPart};
-ghost use Rattle.vfa_ir.specs.Spelling.{incoming as incoming_tokens, instruction as instruction_tokens, line as line_tokens, phi as phi_tokens, phi_part, result as result_tokens};
+ghost use Rattle.std.specs.List.{join_by};
+ghost use Rattle.vfa_ir.specs.Spelling.{comma, incoming as incoming_tokens, instruction as instruction_tokens, phi as phi_tokens, result as result_tokens};
 ghost use Rattle.vfa_print.specs.Layout.{indented};
-ghost use Rattle.vfa_print.specs.Trees.{entry_tree, first_entry, further_entries, inst_tree, name_at, phi_tree};
+ghost use Rattle.vfa_print.specs.Trees.{entry_tree, inst_tree, name_at, phi_tree};
 ghost use Rattle.vfa_print.specs.Writing.{with_tokens};
 
 use crate::operands::push_operand;
@@ -13,7 +12,7 @@ use crate::operations::push_operation;
 use crate::shown::ShownNames;
 use crate::writer::Writer;
 use std::alloc::AllocError;
-use vfa_ir::{BlockId, Inst, Operand, Phi, ValueId};
+use vfa_ir::{BlockId, CallOp, Inst, Operand, Phi, ValueId};
 
 /// `%r =`, where there is a result.
 fn push_result(
@@ -31,11 +30,16 @@ fn push_result(
 }
 
 #[tactic(auto, using(crate::proofs::Drafts::with_tokens_append))]
-fn push_inst(w: &mut Writer, names: &ShownNames, inst: &Inst) -> Result<(), AllocError>
-    ensures { IfOk result (λ _. w.new ≡ with_tokens w.old (instruction_tokens (inst_tree names.now inst.now))) }
+fn push_inst(
+    w: &mut Writer,
+    names: &ShownNames,
+    calls: &[CallOp],
+    inst: &Inst,
+) -> Result<(), AllocError>
+    ensures { IfOk result (λ _. w.new ≡ with_tokens w.old (instruction_tokens (inst_tree names.now calls.now inst.now))) }
 {
     push_result(w, names, inst.result)?;
-    push_operation(w, names, inst.op)
+    push_operation(w, names, calls, inst.op)
 }
 
 /// `[ V , %b ]`
@@ -56,7 +60,7 @@ fn push_entry(
     w.mark(b']')
 }
 
-/// The operands of a phi behind the first.
+/// The operands of a phi after the first.
 #[tactic(auto, using(crate::proofs::Drafts::with_tokens_append))]
 fn push_further(
     w: &mut Writer,
@@ -64,32 +68,14 @@ fn push_further(
     width: u32,
     rest: &[(Operand, BlockId)],
 ) -> Result<(), AllocError>
-    ensures { IfOk result (λ _. w.new ≡ with_tokens w.old (flat_map phi_part (map (λ e. PhiPart.Entry (entry_tree names.now width e)) rest.now))) }
+    ensures { IfOk result (λ _. w.new ≡ with_tokens w.old
+        (flat_map (λ i. comma ∷ incoming_tokens i) (map (entry_tree names.now width) rest.now))) }
 {
     'entries: for entry in rest {
         w.mark(b',')?;
         push_entry(w, names, width, entry.0, entry.1)?;
     }
     Ok(())
-}
-
-/// The first operand of a phi; `[ poison, % ]` where there is none, which does not occur.
-fn push_first(
-    w: &mut Writer,
-    names: &ShownNames,
-    width: u32,
-    entries: &[(Operand, BlockId)],
-) -> Result<(), AllocError>
-    ensures { IfOk result (λ _. w.new ≡ with_tokens w.old (incoming_tokens (first_entry names.now width entries.now))) }
-{
-    if let Some(first) = entries.first() {
-        return push_entry(w, names, width, first.0, first.1);
-    }
-    w.mark(b'[')?;
-    w.word(b"poison")?;
-    w.mark(b',')?;
-    w.local(b"")?;
-    w.mark(b']')
 }
 
 /// The operands of a phi.
@@ -101,13 +87,13 @@ fn push_entries(
     entries: &[(Operand, BlockId)],
 ) -> Result<(), AllocError>
     ensures { IfOk result (λ _. w.new ≡ with_tokens w.old
-        (incoming_tokens (first_entry names.now width entries.now) ++ flat_map phi_part (further_entries names.now width entries.now))) }
+        (join_by incoming_tokens (comma ∷ []) (map (entry_tree names.now width) entries.now))) }
 {
-    push_first(w, names, width, entries)?;
-    match entries.split_first() {
-        Some((_, rest)) => push_further(w, names, width, rest),
-        None => Ok(()),
-    }
+    let Some((first, rest)) = entries.split_first() else {
+        return Ok(());
+    };
+    push_entry(w, names, width, first.0, first.1)?;
+    push_further(w, names, width, rest)
 }
 
 fn push_phi(w: &mut Writer, names: &ShownNames, phi: &Phi) -> Result<(), AllocError>
@@ -128,18 +114,23 @@ fn push_phi_line(w: &mut Writer, names: &ShownNames, phi: &Phi) -> Result<(), Al
     w.bytes(b"\n")
 }
 
-fn push_inst_line(w: &mut Writer, names: &ShownNames, inst: &Inst) -> Result<(), AllocError>
-    ensures { IfOk result (λ _. w.new.text ≡ w.old.text ++ indented (instruction_tokens (inst_tree names.now inst.now))) }
+fn push_inst_line(
+    w: &mut Writer,
+    names: &ShownNames,
+    calls: &[CallOp],
+    inst: &Inst,
+) -> Result<(), AllocError>
+    ensures { IfOk result (λ _. w.new.text ≡ w.old.text ++ indented (instruction_tokens (inst_tree names.now calls.now inst.now))) }
 {
     w.bytes(b"  ")?;
-    push_inst(w, names, inst)?;
+    push_inst(w, names, calls, inst)?;
     w.bytes(b"\n")
 }
 
 /// The phis of a block.
 pub fn push_phis(w: &mut Writer, names: &ShownNames, phis: &[Phi]) -> Result<(), AllocError>
     ensures { IfOk result (λ _. w.new.text ≡ w.old.text
-        ++ flat_map (λ l. indented (line_tokens l)) (map (λ p. Line.Phi (phi_tree names.now p)) phis.now)) }
+        ++ flat_map (λ p. indented (phi_tokens p)) (map (phi_tree names.now) phis.now)) }
 {
     'phis: for phi in phis {
         push_phi_line(w, names, phi)?;
@@ -148,12 +139,17 @@ pub fn push_phis(w: &mut Writer, names: &ShownNames, phis: &[Phi]) -> Result<(),
 }
 
 /// The other instructions of a block.
-pub fn push_insts(w: &mut Writer, names: &ShownNames, insts: &[Inst]) -> Result<(), AllocError>
+pub fn push_insts(
+    w: &mut Writer,
+    names: &ShownNames,
+    calls: &[CallOp],
+    insts: &[Inst],
+) -> Result<(), AllocError>
     ensures { IfOk result (λ _. w.new.text ≡ w.old.text
-        ++ flat_map (λ l. indented (line_tokens l)) (map (λ i. Line.Plain (inst_tree names.now i)) insts.now)) }
+        ++ flat_map (λ i. indented (instruction_tokens i)) (map (inst_tree names.now calls.now) insts.now)) }
 {
     'insts: for inst in insts {
-        push_inst_line(w, names, inst)?;
+        push_inst_line(w, names, calls, inst)?;
     }
     Ok(())
 }

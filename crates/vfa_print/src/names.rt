@@ -6,27 +6,7 @@ ghost use Rattle.vfa_ir.specs.Tokens as tokens;
 ghost use Rattle.vfa_print.specs.Layout.{begins_with_digit as begins, byte_text, hex_digit as digit_of, is_escaped as escaped, is_plain as plain, name_text};
 
 use std::alloc::AllocError;
-
-#[tactic(auto, unfolding(vfa_ir::specs::Tokens::is_digit))]
-fn is_digit(b: u8) -> bool
-    ensures { result ≡ tokens.is_digit b }
-{
-    b'0' <= b && b <= b'9'
-}
-
-#[tactic(auto, unfolding(vfa_ir::specs::Tokens::is_letter))]
-fn is_letter(b: u8) -> bool
-    ensures { result ≡ tokens.is_letter b }
-{
-    (b'A' <= b && b <= b'Z') || (b'a' <= b && b <= b'z')
-}
-
-#[tactic(auto, unfolding(vfa_ir::specs::Tokens::is_run_byte))]
-fn is_run_byte(b: u8) -> bool
-    ensures { result ≡ tokens.is_run_byte b }
-{
-    is_letter(b) || is_digit(b) || b == b'-' || b == b'$' || b == b'.' || b == b'_'
-}
+use vfa_ir::{is_digit, is_run_byte};
 
 fn begins_with_digit(name: &[u8]) -> bool
     ensures { result ≡ begins name.now }

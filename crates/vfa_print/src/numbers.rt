@@ -1,17 +1,10 @@
 //! Numbers as they are written: in signed decimals.
 
-ghost use Rattle.std.specs.Prelude.{◌≡◌, ◌≤◌, ◌-◌, ◌^◌, ◌++◌, nat_lt, decimal, IfOk};
+ghost use Rattle.std.specs.Prelude.{◌≡◌, ◌≤◌, ◌-◌, ◌^◌, ◌++◌, nat_lt, IfOk};
 ghost use Rattle.vfa_print.specs.Trees.{signed_text};
 
 use std::alloc::{AllocError, Global};
-
-/// Puts a number in decimals last in a text.
-pub fn push_decimal(alloc: Global, text: &mut Vec<u8>, n: u128) -> Result<(), AllocError>
-    ensures { IfOk result (λ _. text.new.items ≡ text.old.items ++ decimal n) }
-{
-    let digits = format!(in alloc; "{n}")?;
-    text.extend_from_slice(digits.as_bytes())
-}
+use vfa_ir::push_decimal;
 
 /// Whether the bits of a number of the width say that it is not negative.
 fn is_natural(width: u32, bits: u128) -> bool

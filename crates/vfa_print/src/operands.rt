@@ -81,7 +81,7 @@ pub fn push_both(
 
 /// Two operands, each with its type.
 #[tactic(auto, using(crate::proofs::Drafts::with_tokens_append))]
-pub fn push_arguments(
+pub fn push_two_typed(
     w: &mut Writer,
     names: &ShownNames,
     width: u32,

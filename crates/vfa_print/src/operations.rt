@@ -1,34 +1,48 @@
 //! The operations of instructions.
 
-ghost use Rattle.std.specs.Prelude.{◌≡◌, map, IfOk};
+ghost use Rattle.std.specs.Prelude.{◌≡◌, [], map, IfOk};
 ghost use Rattle.vfa_ir.specs.declared.operations.Op.{Op as OpOf};
 ghost use Rattle.vfa_ir.specs.Lexemes.{word as word_lexeme};
-ghost use Rattle.vfa_ir.specs.Spelling.{operation as operation_tokens, strict_argument};
-ghost use Rattle.vfa_print.specs.Trees.{flag_words, op_tree, strict_tree};
+ghost use Rattle.vfa_ir.specs.Spelling.{operation as operation_tokens, same_sign, strict_argument};
+ghost use Rattle.vfa_print.specs.Trees.{cast_flag_words, flag_word, flag_words, op_tree, strict_tree};
 ghost use Rattle.vfa_print.specs.Writing.{with_tokens};
 
-use crate::operands::{
-    push_arguments, push_bool, push_both, push_operand, push_pair_type, push_typed,
-};
+use crate::calls::push_call;
+use crate::operands::{push_bool, push_both, push_pair_type, push_two_typed, push_typed};
 use crate::shown::ShownNames;
-use crate::words::{bin_word, cast_word, fun1_word, fun2_word, over_word, pred_word};
 use crate::writer::Writer;
 use std::alloc::AllocError;
-use vfa_ir::{Bin, Cast, Flags, Fun1, Fun2, Op, Operand, Over, Pred, ValueId};
+use vfa_ir::{
+    Bin, CallOp, Cast, CastFlags, Flags, Fun1, Fun2, Keyword, Op, Operand, Over, Pred, ValueId,
+};
 
+/// A flag, where it is set.
+fn push_flag(w: &mut Writer, flag: bool, text: &[u8]) -> Result<(), AllocError>
+    ensures { IfOk result (λ _. w.new ≡ with_tokens w.old (map word_lexeme (flag_word flag text.now))) }
+{
+    if flag {
+        return w.word(text);
+    }
+    Ok(())
+}
+
+#[tactic(auto, using(crate::proofs::Drafts::words_append))]
 fn push_flags(w: &mut Writer, flags: Flags) -> Result<(), AllocError>
     ensures { IfOk result (λ _. w.new ≡ with_tokens w.old (map word_lexeme (flag_words flags))) }
 {
-    if flags.nuw {
-        w.word(b"nuw")?;
-    }
-    if flags.nsw {
-        w.word(b"nsw")?;
-    }
-    if flags.exact {
-        w.word(b"exact")?;
-    }
-    Ok(())
+    push_flag(w, flags.nuw, b"nuw")?;
+    push_flag(w, flags.nsw, b"nsw")?;
+    push_flag(w, flags.exact, b"exact")?;
+    push_flag(w, flags.disjoint, b"disjoint")
+}
+
+#[tactic(auto, using(crate::proofs::Drafts::words_append))]
+fn push_cast_flags(w: &mut Writer, flags: CastFlags) -> Result<(), AllocError>
+    ensures { IfOk result (λ _. w.new ≡ with_tokens w.old (map word_lexeme (cast_flag_words flags))) }
+{
+    push_flag(w, flags.nuw, b"nuw")?;
+    push_flag(w, flags.nsw, b"nsw")?;
+    push_flag(w, flags.nneg, b"nneg")
 }
 
 #[tactic(auto, using(crate::proofs::Drafts::with_tokens_append))]
@@ -41,25 +55,38 @@ fn push_binary(
     a: Operand,
     b: Operand,
 ) -> Result<(), AllocError>
-    ensures { IfOk result (λ _. w.new ≡ with_tokens w.old (operation_tokens (op_tree names.now (OpOf.Bin bin flags width a b)))) }
+    ensures { IfOk result (λ _. w.new ≡ with_tokens w.old (operation_tokens (op_tree names.now [] (OpOf.Bin bin flags width a b)))) }
 {
-    w.word(bin_word(bin))?;
+    w.word(bin.word())?;
     push_flags(w, flags)?;
     push_both(w, names, width, a, b)
 }
 
+/// `samesign`, where it is set.
+fn push_same_sign(w: &mut Writer, samesign: bool) -> Result<(), AllocError>
+    ensures { IfOk result (λ _. w.new ≡ with_tokens w.old (same_sign samesign)) }
+{
+    if samesign {
+        return w.word(b"samesign");
+    }
+    Ok(())
+}
+
+#[tactic(auto, using(crate::proofs::Drafts::with_tokens_append))]
 fn push_compare(
     w: &mut Writer,
     names: &ShownNames,
     pred: Pred,
+    samesign: bool,
     width: u32,
     a: Operand,
     b: Operand,
 ) -> Result<(), AllocError>
-    ensures { IfOk result (λ _. w.new ≡ with_tokens w.old (operation_tokens (op_tree names.now (OpOf.Icmp pred width a b)))) }
+    ensures { IfOk result (λ _. w.new ≡ with_tokens w.old (operation_tokens (op_tree names.now [] (OpOf.Icmp pred samesign width a b)))) }
 {
     w.word(b"icmp")?;
-    w.word(pred_word(pred))?;
+    push_same_sign(w, samesign)?;
+    w.word(pred.word())?;
     push_both(w, names, width, a, b)
 }
 
@@ -72,12 +99,12 @@ fn push_select(
     a: Operand,
     b: Operand,
 ) -> Result<(), AllocError>
-    ensures { IfOk result (λ _. w.new ≡ with_tokens w.old (operation_tokens (op_tree names.now (OpOf.Select width c a b)))) }
+    ensures { IfOk result (λ _. w.new ≡ with_tokens w.old (operation_tokens (op_tree names.now [] (OpOf.Select width c a b)))) }
 {
     w.word(b"select")?;
     push_typed(w, names, 1, c)?;
     w.mark(b',')?;
-    push_arguments(w, names, width, a, b)
+    push_two_typed(w, names, width, a, b)
 }
 
 #[tactic(auto, using(crate::proofs::Drafts::with_tokens_append))]
@@ -85,20 +112,22 @@ fn push_cast(
     w: &mut Writer,
     names: &ShownNames,
     cast: Cast,
+    flags: CastFlags,
     from: u32,
     to: u32,
     a: Operand,
 ) -> Result<(), AllocError>
-    ensures { IfOk result (λ _. w.new ≡ with_tokens w.old (operation_tokens (op_tree names.now (OpOf.Cast cast from to a)))) }
+    ensures { IfOk result (λ _. w.new ≡ with_tokens w.old (operation_tokens (op_tree names.now [] (OpOf.Cast cast flags from to a)))) }
 {
-    w.word(cast_word(cast))?;
+    w.word(cast.word())?;
+    push_cast_flags(w, flags)?;
     push_typed(w, names, from, a)?;
     w.word(b"to")?;
     w.integer_type(to)
 }
 
 fn push_freeze(w: &mut Writer, names: &ShownNames, width: u32, a: Operand) -> Result<(), AllocError>
-    ensures { IfOk result (λ _. w.new ≡ with_tokens w.old (operation_tokens (op_tree names.now (OpOf.Freeze width a)))) }
+    ensures { IfOk result (λ _. w.new ≡ with_tokens w.old (operation_tokens (op_tree names.now [] (OpOf.Freeze width a)))) }
 {
     w.word(b"freeze")?;
     push_typed(w, names, width, a)
@@ -111,7 +140,7 @@ fn push_extract(
     pair: ValueId,
     index: u32,
 ) -> Result<(), AllocError>
-    ensures { IfOk result (λ _. w.new ≡ with_tokens w.old (operation_tokens (op_tree names.now (OpOf.Part width pair index)))) }
+    ensures { IfOk result (λ _. w.new ≡ with_tokens w.old (operation_tokens (op_tree names.now [] (OpOf.Part width pair index)))) }
 {
     w.word(b"extractvalue")?;
     push_pair_type(w, width)?;
@@ -129,13 +158,13 @@ fn push_two(
     a: Operand,
     b: Operand,
 ) -> Result<(), AllocError>
-    ensures { IfOk result (λ _. w.new ≡ with_tokens w.old (operation_tokens (op_tree names.now (OpOf.Two fun width a b)))) }
+    ensures { IfOk result (λ _. w.new ≡ with_tokens w.old (operation_tokens (op_tree names.now [] (OpOf.Two fun width a b)))) }
 {
     w.word(b"call")?;
     w.integer_type(width)?;
-    w.callee(fun2_word(fun), width)?;
+    w.callee(fun.word(), width)?;
     w.mark(b'(')?;
-    push_arguments(w, names, width, a, b)?;
+    push_two_typed(w, names, width, a, b)?;
     w.mark(b')')
 }
 
@@ -160,11 +189,11 @@ fn push_one(
     a: Operand,
     strict: bool,
 ) -> Result<(), AllocError>
-    ensures { IfOk result (λ _. w.new ≡ with_tokens w.old (operation_tokens (op_tree names.now (OpOf.One fun width a strict)))) }
+    ensures { IfOk result (λ _. w.new ≡ with_tokens w.old (operation_tokens (op_tree names.now [] (OpOf.One fun width a strict)))) }
 {
     w.word(b"call")?;
     w.integer_type(width)?;
-    w.callee(fun1_word(fun), width)?;
+    w.callee(fun.word(), width)?;
     w.mark(b'(')?;
     push_typed(w, names, width, a)?;
     push_strict(w, fun, strict)?;
@@ -180,19 +209,19 @@ fn push_over(
     a: Operand,
     b: Operand,
 ) -> Result<(), AllocError>
-    ensures { IfOk result (λ _. w.new ≡ with_tokens w.old (operation_tokens (op_tree names.now (OpOf.Over over width a b)))) }
+    ensures { IfOk result (λ _. w.new ≡ with_tokens w.old (operation_tokens (op_tree names.now [] (OpOf.Over over width a b)))) }
 {
     w.word(b"call")?;
     push_pair_type(w, width)?;
-    w.callee(over_word(over), width)?;
+    w.callee(over.word(), width)?;
     w.mark(b'(')?;
-    push_arguments(w, names, width, a, b)?;
+    push_two_typed(w, names, width, a, b)?;
     w.mark(b')')
 }
 
 #[tactic(auto, using(crate::proofs::Drafts::with_tokens_append))]
 fn push_assume(w: &mut Writer, names: &ShownNames, c: Operand) -> Result<(), AllocError>
-    ensures { IfOk result (λ _. w.new ≡ with_tokens w.old (operation_tokens (op_tree names.now (OpOf.Assume c)))) }
+    ensures { IfOk result (λ _. w.new ≡ with_tokens w.old (operation_tokens (op_tree names.now [] (OpOf.Assume c)))) }
 {
     w.word(b"call")?;
     w.word(b"void")?;
@@ -202,9 +231,14 @@ fn push_assume(w: &mut Writer, names: &ShownNames, c: Operand) -> Result<(), All
     w.mark(b')')
 }
 
-/// An operation.
-pub fn push_operation(w: &mut Writer, names: &ShownNames, op: Op) -> Result<(), AllocError>
-    ensures { IfOk result (λ _. w.new ≡ with_tokens w.old (operation_tokens (op_tree names.now op))) }
+/// An operation of a function with these calls.
+pub fn push_operation(
+    w: &mut Writer,
+    names: &ShownNames,
+    calls: &[CallOp],
+    op: Op,
+) -> Result<(), AllocError>
+    ensures { IfOk result (λ _. w.new ≡ with_tokens w.old (operation_tokens (op_tree names.now calls.now op))) }
 {
     match op {
         Op::Bin {
@@ -214,9 +248,21 @@ pub fn push_operation(w: &mut Writer, names: &ShownNames, op: Op) -> Result<(), 
             a,
             b,
         } => push_binary(w, names, bin, flags, width, a, b),
-        Op::Icmp { pred, width, a, b } => push_compare(w, names, pred, width, a, b),
+        Op::Icmp {
+            pred,
+            samesign,
+            width,
+            a,
+            b,
+        } => push_compare(w, names, pred, samesign, width, a, b),
         Op::Select { width, c, a, b } => push_select(w, names, width, c, a, b),
-        Op::Cast { cast, from, to, a } => push_cast(w, names, cast, from, to, a),
+        Op::Cast {
+            cast,
+            flags,
+            from,
+            to,
+            a,
+        } => push_cast(w, names, cast, flags, from, to, a),
         Op::Freeze { width, a } => push_freeze(w, names, width, a),
         Op::Two { fun, width, a, b } => push_two(w, names, fun, width, a, b),
         Op::One {
@@ -228,5 +274,6 @@ pub fn push_operation(w: &mut Writer, names: &ShownNames, op: Op) -> Result<(), 
         Op::Over { over, width, a, b } => push_over(w, names, over, width, a, b),
         Op::Part { width, pair, index } => push_extract(w, names, width, pair, index),
         Op::Assume { c } => push_assume(w, names, c),
+        Op::Call { width, call } => push_call(w, names, calls, width, call),
     }
 }

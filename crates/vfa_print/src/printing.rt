@@ -14,7 +14,7 @@ use crate::writer::Writer;
 use std::alloc::{AllocError, Global};
 use vfa_ir::Function;
 
-/// The bytes between the parameters and the body, behind a blank.
+/// The bytes between the parameters and the body, after a blank.
 fn push_tail(w: &mut Writer, tail: &[u8]) -> Result<(), AllocError>
     ensures { IfOk result (λ _. w.new.text ≡ w.old.text ++ tail_text tail.now) }
 {
@@ -33,7 +33,7 @@ fn text_with(alloc: Global, names: &ShownNames, f: &Function) -> Result<Vec<u8>,
     push_header(&mut w, names, f)?;
     push_tail(&mut w, f.tail.bytes())?;
     w.bytes(b" {\n")?;
-    push_blocks(&mut w, names, f.blocks.as_slice())?;
+    push_blocks(&mut w, names, f.calls.as_slice(), f.blocks.as_slice())?;
     w.bytes(b"}")?;
     Ok(w.into_text())
 }

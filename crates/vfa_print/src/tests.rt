@@ -6,14 +6,21 @@ use std::alloc::{AllocError, Global};
 use std::process::Abort;
 use std::test::Fail;
 use vfa_ir::{
-    Bin, Block, BlockId, Cast, Few, Flags, Fun1, Fun2, Function, Inst, Items, Name, Op, Operand,
-    Over, Param, Phi, Pred, Term, Ty, Value, ValueId,
+    Bin, Block, BlockId, CallArg, CallOp, Cast, CastFlags, Few, Flags, Fun1, Fun2, Function, Inst,
+    Items, Name, Op, Operand, Over, Param, Phi, Pred, Term, Ty, Value, ValueId,
 };
 
 const PLAIN: Flags = Flags {
     nuw: false,
     nsw: false,
     exact: false,
+    disjoint: false,
+};
+
+const PLAIN_CAST: CastFlags = CastFlags {
+    nuw: false,
+    nsw: false,
+    nneg: false,
 };
 
 fn name(alloc: Global, text: &[u8]) -> Result<Option<Name>, AllocError> {
@@ -76,6 +83,7 @@ fn function(
         tail: Name(Vec::new(alloc)),
         values,
         blocks: Items(blocks),
+        calls: Items(Vec::new(alloc)),
     })
 }
 
@@ -137,6 +145,7 @@ fn without_names(rt: HostRuntime) -> Result<(), Fail> {
         nuw: true,
         nsw: true,
         exact: false,
+        disjoint: false,
     };
     let f = one_line(
         rt.alloc(),
@@ -191,6 +200,7 @@ fn comparisons(alloc: Global) -> Result<Vec<(Option<ValueId>, Op)>, AllocError> 
         Some(ValueId(1)),
         Op::Icmp {
             pred: Pred::Slt,
+            samesign: false,
             width: 8,
             a: value(0),
             b: Operand::Literal(128),
@@ -209,6 +219,7 @@ fn comparisons(alloc: Global) -> Result<Vec<(Option<ValueId>, Op)>, AllocError> 
         Some(ValueId(3)),
         Op::Cast {
             cast: Cast::Zext,
+            flags: PLAIN_CAST,
             from: 8,
             to: 128,
             a: value(2),
@@ -218,6 +229,7 @@ fn comparisons(alloc: Global) -> Result<Vec<(Option<ValueId>, Op)>, AllocError> 
         nuw: false,
         nsw: false,
         exact: true,
+        disjoint: false,
     };
     insts.push((
         Some(ValueId(4)),
@@ -239,7 +251,9 @@ fn comparisons(alloc: Global) -> Result<Vec<(Option<ValueId>, Op)>, AllocError> 
     Ok(insts)
 }
 
-fn calls(mut insts: Vec<(Option<ValueId>, Op)>) -> Result<Vec<(Option<ValueId>, Op)>, AllocError> {
+fn intrinsics(
+    mut insts: Vec<(Option<ValueId>, Op)>,
+) -> Result<Vec<(Option<ValueId>, Op)>, AllocError> {
     insts.push((
         Some(ValueId(6)),
         Op::Two {
@@ -305,7 +319,7 @@ fn each_operation(rt: HostRuntime) -> Result<(), Fail> {
         (b"n", Ty::Int(8)),
         (b"t", Ty::Int(1)),
     ];
-    let insts = calls(comparisons(alloc)?)?;
+    let insts = intrinsics(comparisons(alloc)?)?;
     let term = Term::Ret {
         width: 1,
         a: value(10),
@@ -388,4 +402,164 @@ fn each_terminator(rt: HostRuntime) -> Result<(), Fail> {
     let values = values(alloc, &[(b"", Ty::Int(8)), (b"", Ty::Int(8))])?;
     let f = function(alloc, b"f", 8, values, branches(alloc)?)?;
     check_text(&rt, &f, BRANCHES)
+}
+
+// The newer flags, and calls with words and without.
+const CALLS: &[u8] = b"define i8 @f(i8 %x) {
+entry:
+  %d = or disjoint i8 %x, 1
+  %c = icmp samesign ult i8 %d, 10
+  %w = zext nneg i8 %d to i16
+  %h = trunc nuw nsw i16 %w to i8
+  %r = call i8 @g(i8 %x, i8 1)
+  call void @h()
+  %s = call fastcc noundef i16 @\"a b\"(i8 noundef zeroext %h, i16 poison)
+  ret i8 %r
+}";
+
+fn newer_flags(alloc: Global) -> Result<Vec<(Option<ValueId>, Op)>, AllocError> {
+    let mut insts: Vec<(Option<ValueId>, Op)> = Vec::new(alloc);
+    insts.push((
+        Some(ValueId(1)),
+        Op::Bin {
+            bin: Bin::Or,
+            flags: Flags {
+                nuw: false,
+                nsw: false,
+                exact: false,
+                disjoint: true,
+            },
+            width: 8,
+            a: value(0),
+            b: Operand::Literal(1),
+        },
+    ))?;
+    insts.push((
+        Some(ValueId(2)),
+        Op::Icmp {
+            pred: Pred::Ult,
+            samesign: true,
+            width: 8,
+            a: value(1),
+            b: Operand::Literal(10),
+        },
+    ))?;
+    insts.push((
+        Some(ValueId(3)),
+        Op::Cast {
+            cast: Cast::Zext,
+            flags: CastFlags {
+                nuw: false,
+                nsw: false,
+                nneg: true,
+            },
+            from: 8,
+            to: 16,
+            a: value(1),
+        },
+    ))?;
+    insts.push((
+        Some(ValueId(4)),
+        Op::Cast {
+            cast: Cast::Trunc,
+            flags: CastFlags {
+                nuw: true,
+                nsw: true,
+                nneg: false,
+            },
+            from: 16,
+            to: 8,
+            a: value(3),
+        },
+    ))?;
+    Ok(insts)
+}
+
+fn words(alloc: Global, all: &[&[u8]]) -> Result<Items<Name>, AllocError> {
+    let mut words: Vec<Name> = Vec::new(alloc);
+    'all: for word in all {
+        words.push(Name::of(alloc, word)?)?;
+    }
+    Ok(Items(words))
+}
+
+fn call(
+    alloc: Global,
+    callee: &[u8],
+    words: Items<Name>,
+    args: Vec<CallArg>,
+) -> Result<CallOp, AllocError> {
+    Ok(CallOp {
+        callee: Name::of(alloc, callee)?,
+        words,
+        args: Items(args),
+    })
+}
+
+fn arg(alloc: Global, width: u32, all: &[&[u8]], passed: Operand) -> Result<CallArg, AllocError> {
+    Ok(CallArg {
+        width,
+        words: words(alloc, all)?,
+        value: passed,
+    })
+}
+
+fn three_calls(alloc: Global) -> Result<Items<CallOp>, AllocError> {
+    let mut first: Vec<CallArg> = Vec::new(alloc);
+    first.push(arg(alloc, 8, &[], value(0))?)?;
+    first.push(arg(alloc, 8, &[], Operand::Literal(1))?)?;
+    let mut last: Vec<CallArg> = Vec::new(alloc);
+    last.push(arg(alloc, 8, &[b"noundef", b"zeroext"], value(4))?)?;
+    last.push(arg(alloc, 16, &[], Operand::Poison)?)?;
+    let mut calls: Vec<CallOp> = Vec::new(alloc);
+    calls.push(call(alloc, b"g", words(alloc, &[])?, first)?)?;
+    calls.push(call(alloc, b"h", words(alloc, &[])?, Vec::new(alloc))?)?;
+    let attributes = words(alloc, &[b"fastcc", b"noundef"])?;
+    calls.push(call(alloc, b"a b", attributes, last)?)?;
+    Ok(Items(calls))
+}
+
+#[test]
+fn newer_flags_and_calls(rt: HostRuntime) -> Result<(), Fail> {
+    let alloc = rt.alloc();
+    let all: [(&[u8], Ty); 7] = [
+        (b"x", Ty::Int(8)),
+        (b"d", Ty::Int(8)),
+        (b"c", Ty::Int(1)),
+        (b"w", Ty::Int(16)),
+        (b"h", Ty::Int(8)),
+        (b"r", Ty::Int(8)),
+        (b"s", Ty::Int(16)),
+    ];
+    let mut insts = newer_flags(alloc)?;
+    insts.push((
+        Some(ValueId(5)),
+        Op::Call {
+            width: Some(8),
+            call: 0,
+        },
+    ))?;
+    insts.push((
+        None,
+        Op::Call {
+            width: None,
+            call: 1,
+        },
+    ))?;
+    insts.push((
+        Some(ValueId(6)),
+        Op::Call {
+            width: Some(16),
+            call: 2,
+        },
+    ))?;
+    let term = Term::Ret {
+        width: 8,
+        a: value(5),
+    };
+    let mut blocks: Vec<Block> = Vec::new(alloc);
+    blocks.push(block(alloc, b"entry", &insts, term)?)?;
+    let mut f = function(alloc, b"f", 8, values(alloc, &all)?, blocks)?;
+    f.calls = three_calls(alloc)?;
+    check_text(&rt, &f, CALLS)
 }

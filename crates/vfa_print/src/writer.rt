@@ -1,19 +1,20 @@
 //! A text while it is written, token by token.
 
-ghost use Rattle.std.specs.Prelude.{◌≡◌, ◌++◌, ℕ, List, [], ◌∷◌, decimal, true, false, IfOk};
+ghost use Rattle.std.specs.Prelude.{◌≡◌, ◌++◌, ℕ, List, [], ◌∷◌, decimal, map, true, false, IfOk};
 ghost use Rattle.vfa_ir.specs.Lexemes.{local as local_lexeme, global as global_lexeme, label as label_lexeme, mark as mark_lexeme, number as number_lexeme, word as word_lexeme};
 ghost use Rattle.vfa_ir.specs.Spelling.{type as type_lexeme};
 ghost use Rattle.vfa_ir.specs.Words.{callee as callee_name};
 ghost use Rattle.vfa_print.specs.Trees.{signed_text};
 ghost use Rattle.vfa_print.specs.Layout.{blank_between, text_line};
-ghost use Rattle.vfa_print.specs.Writing.{Draft, with_token, with_bytes};
+ghost use Rattle.vfa_print.specs.Writing.{Draft, with_token, with_tokens, with_bytes};
 
 use crate::names::push_name;
-use crate::numbers::{push_decimal, push_signed};
+use crate::numbers::push_signed;
 use std::alloc::{AllocError, Global};
 use std::marker::Model;
+use vfa_ir::{Name, push_decimal};
 
-/// A text while it is written. Contracts see its bytes so far, and whether a blank is due behind them.
+/// A text while it is written. Contracts see its bytes so far, and whether a blank is due after them.
 #[derive(Drop)]
 pub struct Writer {
     alloc: Global,
@@ -72,6 +73,17 @@ impl Writer {
     {
         self.blank()?;
         self.text.extend_from_slice(text)
+    }
+
+    /// Words, in order.
+    #[tactic(auto, using(crate::proofs::Drafts::with_tokens_append))]
+    pub fn words(&mut self, words: &[Name]) -> Result<(), AllocError>
+        ensures { IfOk result (λ _. self.new ≡ with_tokens self.old (map word_lexeme words.now)) }
+    {
+        'words: for word in words {
+            self.word(word.bytes())?;
+        }
+        Ok(())
     }
 
     /// `iN`

@@ -26,8 +26,8 @@ loop-token-preserved c =
     let on = behind_line _ _ _ _ placed in
     let line = c.line_behind-on.ensures in
     let feeds = behind_feeds _ _ _ _ placed in
-    let bound = c.parens_behind-parens.ensures.bound in
-    let count = c.parens_behind-parens.ensures.count in
+    let bound = c.parens_after-parens.ensures.bound in
+    let count = c.parens_after-parens.ensures.count in
     let named = c.is_named-named.ensures in
     record {
       behind = omega arith;

@@ -17,8 +17,8 @@ returns-then-closes_body-clause-found c =
     let byte = closes_byte _ _ (sym c.if-closes_body.ensures) in
     let feeds = placed_feeds _ _ _ _ placed in
     record {
-      behind = omega arith;
-      byte = byte;
+      after = omega arith;
+      byte_is = byte;
       one = brace_end _ _ _ _ placed byte;
       within = placed.within;
       lines = omega arith;
@@ -30,8 +30,8 @@ loop-token-preserved c =
     let on = behind_line _ _ _ _ placed in
     let line = c.line_behind-line.ensures in
     let feeds = behind_feeds _ _ _ _ placed in
-    let bound = c.braces_behind-braces.ensures.bound in
-    let count = c.braces_behind-braces.ensures.count in
+    let bound = c.braces_after-braces.ensures.bound in
+    let count = c.braces_after-braces.ensures.count in
     record {
       behind = omega arith;
       within = placed.within;

@@ -1,7 +1,8 @@
 use Rattle.std.proofs.Common.{◌≡◌, ◌≤◌, ◌+◌, ◌-◌, ◌<◌, length, take}
 use Rattle.std.specs.List.{AllByRecursion}
 use Rattle.vfa_ir.specs.Tokens.{line_feeds}
-use Rattle.vfa_module.proofs.Steps.{NoDefine, items_then}
+use Rattle.vfa_module.proofs.Steps.{AreClosed, items_then}
+use Rattle.vfa_module.specs.Defines.{BeginsLine, HasNoDefine, IsPart}
 use Rattle.vfa_module.specs.Split as spec
 use Rattle.vfa_module.proofs.splitting.split.Given as goal
 
@@ -14,8 +15,10 @@ invariant-loop-at l = record {
       spec.split_of l.bytes ≡
       items_then l.items.items l.copied (length l.bytes) (spec.defines_from l.bytes l.at l.line);
   cover : spec.Cover 0 l.copied l.items.items;
-  parts : AllByRecursion (spec.IsPart l.bytes) l.items.items;
-  none : NoDefine l.bytes l.copied l.at;
+  parts : AllByRecursion (IsPart l.bytes) l.items.items;
+  closed : AreClosed l.items.items;
+  none : HasNoDefine l.bytes l.copied l.at;
+  begins : l.at < length l.bytes → BeginsLine l.bytes l.at;
   counted : l.at < length l.bytes → l.line ≡ 1 + line_feeds (take l.at l.bytes);
 }
 
