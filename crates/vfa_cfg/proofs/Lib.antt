@@ -1,0 +1,5 @@
+pub mod Members
+pub mod Visiting
+mod Marks
+mod Walking
+mod Weights
