@@ -1,5 +1,7 @@
+pub mod InOrder
 pub mod Members
 pub mod Visiting
-mod Marks
+pub mod Walked
+pub mod Marks
 mod Walking
 mod Weights

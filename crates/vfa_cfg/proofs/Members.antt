@@ -95,7 +95,7 @@ pub distinct_nil : IsDistinct nat_eq []
 unfolding IsDistinct
 distinct_nil = tt
 
-apart_in : (x : ℕ) (xs : List ℕ) → AllByRecursion (λ y. nat_eq x y ≡ false) xs → is_in x xs ≡ false
+pub apart_in : (x : ℕ) (xs : List ℕ) → AllByRecursion (λ y. nat_eq x y ≡ false) xs → is_in x xs ≡ false
 apart_in x [] h = refl
 apart_in x (y ∷ xs) h = let e = h.0 in let r = apart_in x xs h.1 in cc
 

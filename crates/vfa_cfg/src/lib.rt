@@ -7,8 +7,10 @@ mod loops;
 mod ordering;
 mod search;
 mod targets;
+#[cfg(test)]
+mod tests;
 
 pub use listing::{Edge, Way, edges};
 pub use loops::heads;
 pub use ordering::order;
-pub use targets::target;
+pub use targets::successor;

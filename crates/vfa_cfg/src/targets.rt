@@ -36,9 +36,7 @@ fn one_of_many(other: BlockId, cases: &[(u128, BlockId)], k: usize) -> Option<Bl
     }
 }
 
-/// The target of the edge number `k` of a terminator, counted from 0 as written; None exactly where there are no more than
-/// `k`. Of `br i1 %c, label %a, label %b`, number 1 leads to b.
-pub fn target(term: &Term, k: usize) -> Option<BlockId>
+fn target(term: &Term, k: usize) -> Option<BlockId>
     ensures { result ≡ slice_get (targets term.now) k }
 {
     match term {
@@ -49,8 +47,9 @@ pub fn target(term: &Term, k: usize) -> Option<BlockId>
     }
 }
 
-/// The target of the edge number `k` of a block.
-pub(crate) fn successor(f: &Function, from: BlockId, k: usize) -> Option<BlockId>
+/// The target of the edge number `k` of a block, counted from 0 as written; None exactly where it has no more than `k`.
+/// Of a block that ends in `br i1 %c, label %a, label %b`, number 1 leads to b.
+pub fn successor(f: &Function, from: BlockId, k: usize) -> Option<BlockId>
     ensures target { option_map (λ t. t.0) result ≡ slice_get (successors f.now from.0) k }
     ensures bound { IfSome result (λ _. HasFewBlocks f.now → k ≤ 2 ^ 28) }
 {
