@@ -19,5 +19,5 @@ mod FoldedLines
 mod FoldRefines
 mod FirstGlobals
 mod NameSets
-mod PartLists
+mod PieceLists
 mod FoldPrintable

@@ -16,10 +16,10 @@ use Rattle.vfa_module.specs.Split.{Cover, start_of, end_of, split_of}
 use Rattle.vfa_read.specs.declared.reading.ReadFunction.{ReadFunction}
 use Rattle.vfa.specs.declared.modules.Refused.{Refused}
 use Rattle.vfa.specs.declared.modules.parts.Part.{Part}
-use Rattle.vfa.specs.Module.{Part as Piece, copied, accepted, carried, IsPart, AreParts, IsPartText, AreTexts, part_name, part_note, function_names, notes_of, Splits, IsModule, IsModuleText, RepeatsName}
-use Rattle.vfa.specs.Parts.{part_of, accepted_name, accepted_names, IsPlaced, IsRefined, Written}
+use Rattle.vfa.specs.Module.{Piece, copied, accepted, carried, IsPiece, ArePieces, IsPieceText, AreTexts, piece_name, piece_note, function_names, notes_of, Splits, IsModule, IsModuleText, RepeatsName}
+use Rattle.vfa.specs.Parts.{piece_of, accepted_name, accepted_names, IsPlaced, IsRefined, Rendered}
 use Rattle.vfa.specs.Refusals.{IsRefusal, RefusedFor, most}
-use Rattle.vfa.proofs.FirstGlobals.{behind}
+use Rattle.vfa.proofs.FirstGlobals.{drop_at}
 
 -- ---- items
 
@@ -46,7 +46,7 @@ cover_placed input from (i ∷ rest) c =
 define_only : (input : List ℕ) (start end line : ℕ) (f : Function) (other : Piece) →
     ((g : Function) (lines : Lines) → IsAccepted (slice_range input start end) (tokens_of (slice_range input start end)) g lines → f ≡ g) →
     ((reason : Outside) → IsReason (slice_range input start end) (tokens_of (slice_range input start end)) reason → ⊥) →
-    IsPart input (Item.Define start end line) other → other ≡ accepted f
+    IsPiece input (Item.Define start end line) other → other ≡ accepted f
 define_only input start end line f (copied t) reads refuses is = absurd is
 define_only input start end line f (accepted g) reads refuses is = ap accepted (sym (reads g is.0 is.1))
 define_only input start end line f (carried t n reason) reads refuses is = absurd (refuses reason (subst (λ x. IsReason x (tokens_of x) reason) is.0 is.2))
@@ -56,7 +56,7 @@ pub read_only : (input : List ℕ) (start end line : ℕ) (r : Result ReadFuncti
     IfOk r (λ r. (r.function ≡ f) × (r.lines ≡ lines)) × IfErr r (λ e. e ≡ Outside.Memory)) →
     ((reason : Outside) → IsReason (slice_range input start end) (tokens_of (slice_range input start end)) reason →
     OnOk r ⊥ × IfErr r (λ e. (e ≡ reason) ⊎ (e ≡ Outside.Memory))) →
-    (other : Piece) → IsPart input (Item.Define start end line) other → other ≡ accepted read.function
+    (other : Piece) → IsPiece input (Item.Define start end line) other → other ≡ accepted read.function
 read_only input start end line (Err e) read ok accepts refuses other is = cc
 read_only input start end line (Ok x) read ok accepts refuses other is =
     let same : x ≡ read = cc in
@@ -68,7 +68,7 @@ read_only input start end line (Ok x) read ok accepts refuses other is =
 carried_only : (input : List ℕ) (start end line : ℕ) (reason : Outside) (other : Piece) →
     ((g : Function) (lines : Lines) → IsAccepted (slice_range input start end) (tokens_of (slice_range input start end)) g lines → ⊥) →
     ((e : Outside) → IsReason (slice_range input start end) (tokens_of (slice_range input start end)) e → reason ≡ e) →
-    IsPart input (Item.Define start end line) other → other ≡ carried (slice_range input start end) line reason
+    IsPiece input (Item.Define start end line) other → other ≡ carried (slice_range input start end) line reason
 carried_only input start end line reason (copied t) reads refuses is = absurd is
 carried_only input start end line reason (accepted g) reads refuses is = absurd (reads g is.0 is.1)
 carried_only input start end line reason (carried t n e) reads refuses is =
@@ -84,7 +84,7 @@ pub refused_only : (input : List ℕ) (start end line : ℕ) (r : Result ReadFun
     IfOk r (λ r. (r.function ≡ f) × (r.lines ≡ lines)) × IfErr r (λ e. e ≡ Outside.Memory)) →
     ((reason : Outside) → IsReason (slice_range input start end) (tokens_of (slice_range input start end)) reason →
     OnOk r ⊥ × IfErr r (λ e. (e ≡ reason) ⊎ (e ≡ Outside.Memory))) →
-    (other : Piece) → IsPart input (Item.Define start end line) other → other ≡ carried (slice_range input start end) line reason
+    (other : Piece) → IsPiece input (Item.Define start end line) other → other ≡ carried (slice_range input start end) line reason
 refused_only input start end line (Ok x) reason bad unlike accepts refuses other is = cc
 refused_only input start end line (Err x) reason bad unlike accepts refuses other is =
     let same : x ≡ reason = cc in
@@ -100,7 +100,7 @@ pub tokens_read_only : (input : List ℕ) (start end line : ℕ) (tokens : List 
     IfOk r (λ r. (r.function ≡ f) × (r.lines ≡ lines)) × IfErr r (λ e. e ≡ Outside.Memory)) →
     ((reason : Outside) → IsReason (slice_range input start end) tokens reason →
     OnOk r ⊥ × IfErr r (λ e. (e ≡ reason) ⊎ (e ≡ Outside.Memory))) →
-    (other : Piece) → IsPart input (Item.Define start end line) other → other ≡ accepted read.function
+    (other : Piece) → IsPiece input (Item.Define start end line) other → other ≡ accepted read.function
 tokens_read_only input start end line tokens r read same ok accepts refuses =
     let text = slice_range input start end in
     read_only input start end line r read ok
@@ -113,14 +113,14 @@ pub tokens_refused_only : (input : List ℕ) (start end line : ℕ) (tokens : Li
     IfOk r (λ r. (r.function ≡ f) × (r.lines ≡ lines)) × IfErr r (λ e. e ≡ Outside.Memory)) →
     ((reason : Outside) → IsReason (slice_range input start end) tokens reason →
     OnOk r ⊥ × IfErr r (λ e. (e ≡ reason) ⊎ (e ≡ Outside.Memory))) →
-    (other : Piece) → IsPart input (Item.Define start end line) other → other ≡ carried (slice_range input start end) line reason
+    (other : Piece) → IsPiece input (Item.Define start end line) other → other ≡ carried (slice_range input start end) line reason
 tokens_refused_only input start end line tokens r reason same bad other accepts refuses =
     let text = slice_range input start end in
     refused_only input start end line r reason bad other
     (λ f lines is. accepts f lines (subst (λ t. IsAccepted text t f lines) (sym same) is))
     (λ e is. refuses e (subst (λ t. IsReason text t e) (sym same) is))
 
-pub lines_only : (input : List ℕ) (start end : ℕ) (other : Piece) → IsPart input (Item.Lines start end) other → other ≡ copied (slice_range input start end)
+pub lines_only : (input : List ℕ) (start end : ℕ) (other : Piece) → IsPiece input (Item.Lines start end) other → other ≡ copied (slice_range input start end)
 lines_only input start end (copied t) is = ap copied is
 lines_only input start end (accepted f) is = absurd is
 lines_only input start end (carried t n e) is = absurd is
@@ -128,42 +128,42 @@ lines_only input start end (carried t n e) is = absurd is
 -- ---- lists of parts
 
 -- the list is one of parts, and no other is
-pub record OnlyParts (input : List ℕ) (items : List Item) (parts : List Piece) : Type 0 where
-  pub are : AreParts input items parts
-  pub only : (others : List Piece) → AreParts input items others → others ≡ parts
+pub record OnlyPieces (input : List ℕ) (items : List Item) (parts : List Piece) : Type 0 where
+  pub are : ArePieces input items parts
+  pub only : (others : List Piece) → ArePieces input items others → others ≡ parts
 
-only_none : (input : List ℕ) (others : List Piece) → AreParts input [] others → others ≡ []
+only_none : (input : List ℕ) (others : List Piece) → ArePieces input [] others → others ≡ []
 only_none input [] are = refl
 only_none input (p ∷ others) are = absurd are
 
-no_parts : (input : List ℕ) → OnlyParts input [] []
+no_parts : (input : List ℕ) → OnlyPieces input [] []
 no_parts input = record { are = tt; only = only_none input }
 
 only_more : (input : List ℕ) (item : Item) (items : List Item) (part : Piece) (parts : List Piece) →
-    ((other : Piece) → IsPart input item other → other ≡ part) → ((others : List Piece) → AreParts input items others → others ≡ parts) →
-    (others : List Piece) → AreParts input (item ∷ items) others → others ≡ part ∷ parts
+    ((other : Piece) → IsPiece input item other → other ≡ part) → ((others : List Piece) → ArePieces input items others → others ≡ parts) →
+    (others : List Piece) → ArePieces input (item ∷ items) others → others ≡ part ∷ parts
 only_more input item items part parts one rest [] are = absurd are
 only_more input item items part parts one rest (p ∷ others) are =
     ap (λ q. q ∷ others) (one p are.0) ∙ ap (λ qs. part ∷ qs) (rest others are.1)
 
-more_parts : (input : List ℕ) (item : Item) (items : List Item) (part : Piece) (parts : List Piece) → IsPart input item part →
-    ((other : Piece) → IsPart input item other → other ≡ part) → OnlyParts input items parts → OnlyParts input (item ∷ items) (part ∷ parts)
+more_parts : (input : List ℕ) (item : Item) (items : List Item) (part : Piece) (parts : List Piece) → IsPiece input item part →
+    ((other : Piece) → IsPiece input item other → other ≡ part) → OnlyPieces input items parts → OnlyPieces input (item ∷ items) (part ∷ parts)
 more_parts input item items part parts is one rest =
     record { are = (is, rest.are); only = only_more input item items part parts one rest.only }
 
 -- ---- what is written of a list of parts
 
-texts-last : (pieces : List Piece) (piece : Piece) (out text : List ℕ) → AreTexts pieces out → IsPartText piece text →
+texts-last : (pieces : List Piece) (piece : Piece) (out text : List ℕ) → AreTexts pieces out → IsPieceText piece text →
     AreTexts (pieces ++ piece ∷ []) (out ++ text)
 texts-last [] piece out text are is =
     subst (λ o. AreTexts (piece ∷ []) (o ++ text)) (sym are) (text, [], is, refl, sym (append-nil text))
 texts-last (p ∷ pieces) piece out text are is =
     (are.0, are.1 ++ text, are.2, texts-last pieces piece are.1 text are.3 is, ap (λ o. o ++ text) are.4 ∙ append_assoc are.0 are.1 text)
 
-notes-last : (pieces : List Piece) (piece : Piece) → notes_of (pieces ++ piece ∷ []) ≡ notes_of pieces ++ part_note piece
-notes-last [] piece = append-nil (part_note piece)
+notes-last : (pieces : List Piece) (piece : Piece) → notes_of (pieces ++ piece ∷ []) ≡ notes_of pieces ++ piece_note piece
+notes-last [] piece = append-nil (piece_note piece)
 notes-last (p ∷ pieces) piece =
-    ap (λ n. part_note p ++ n) (notes-last pieces piece) ∙ sym (append_assoc (part_note p) (notes_of pieces) (part_note piece))
+    ap (λ n. piece_note p ++ n) (notes-last pieces piece) ∙ sym (append_assoc (piece_note p) (notes_of pieces) (piece_note piece))
 
 cons_option-append : {A : Type 0} (o : Option A) (xs ys : List A) → cons_option o (xs ++ ys) ≡ cons_option o xs ++ ys
 cons_option-append None xs ys = refl
@@ -172,8 +172,8 @@ cons_option-append (Some x) xs ys = refl
 names-last : (pieces : List Piece) (piece : Piece) → function_names (pieces ++ piece ∷ []) ≡ function_names pieces ++ function_names (piece ∷ [])
 names-last [] piece = refl
 names-last (p ∷ pieces) piece =
-    ap (cons_option (part_name p)) (names-last pieces piece)
-    ∙ cons_option-append (part_name p) (function_names pieces) (function_names (piece ∷ []))
+    ap (cons_option (piece_name p)) (names-last pieces piece)
+    ∙ cons_option-append (piece_name p) (function_names pieces) (function_names (piece ∷ []))
 
 all-last : (pieces : List Piece) (piece : Piece) → AllByRecursion IsRefined pieces → IsRefined piece → AllByRecursion IsRefined (pieces ++ piece ∷ [])
 all-last [] piece all one = (one, tt)
@@ -181,17 +181,17 @@ all-last (p ∷ pieces) piece all one = (all.0, all-last pieces piece all.1 one)
 
 -- the parts of the items before i and what is written of them: with those of the items from i on they are those of all
 -- items
-pub record WrittenSoFar (input : List ℕ) (items : List Item) (i : ℕ) (out notes : List ℕ) (names : List (List ℕ)) : Type 0 where
+pub record RenderedSoFar (input : List ℕ) (items : List Item) (i : ℕ) (out notes : List ℕ) (names : List (List ℕ)) : Type 0 where
   pub pieces : List Piece
-  pub with_rest : (rest : List Piece) → OnlyParts input (drop i items) rest → OnlyParts input items (pieces ++ rest)
+  pub with_rest : (rest : List Piece) → OnlyPieces input (drop i items) rest → OnlyPieces input items (pieces ++ rest)
   pub texts : AreTexts pieces out
   pub notes_are : notes ≡ notes_of pieces
   pub names_are : names ≡ function_names pieces
   pub refined : AllByRecursion IsRefined pieces
 
-pub written_init : (input : List ℕ) (items : List Item) (out notes : List ℕ) (names : List (List ℕ)) → out ≡ [] → notes ≡ [] → names ≡ [] →
-    WrittenSoFar input items 0 out notes names
-written_init input items out notes names no_out no_notes no_names = record {
+pub rendered_init : (input : List ℕ) (items : List Item) (out notes : List ℕ) (names : List (List ℕ)) → out ≡ [] → notes ≡ [] → names ≡ [] →
+    RenderedSoFar input items 0 out notes names
+rendered_init input items out notes names no_out no_notes no_names = record {
   pieces = [];
   with_rest = λ rest are. are;
   texts = no_out;
@@ -201,35 +201,35 @@ written_init input items out notes names no_out no_notes no_names = record {
 }
 
 rest_with : (input : List ℕ) (items : List Item) (i : ℕ) (item : Item) (piece : Piece) (pieces : List Piece) → i < length items → item ≡ get_or items i item →
-    ((rest : List Piece) → OnlyParts input (drop i items) rest → OnlyParts input items (pieces ++ rest)) → IsPart input item piece →
-    ((other : Piece) → IsPart input item other → other ≡ piece) → (rest : List Piece) → OnlyParts input (drop (i + 1) items) rest →
-    OnlyParts input items ((pieces ++ piece ∷ []) ++ rest)
+    ((rest : List Piece) → OnlyPieces input (drop i items) rest → OnlyPieces input items (pieces ++ rest)) → IsPiece input item piece →
+    ((other : Piece) → IsPiece input item other → other ≡ piece) → (rest : List Piece) → OnlyPieces input (drop (i + 1) items) rest →
+    OnlyPieces input items ((pieces ++ piece ∷ []) ++ rest)
 rest_with input items i item piece pieces lt is so_far one only rest are =
-    subst (λ ps. OnlyParts input items ps) (sym (append_assoc pieces (piece ∷ []) rest))
+    subst (λ ps. OnlyPieces input items ps) (sym (append_assoc pieces (piece ∷ []) rest))
     (so_far (piece ∷ rest)
-    (subst (λ is. OnlyParts input is (piece ∷ rest)) (sym (behind items i item lt is))
+    (subst (λ is. OnlyPieces input is (piece ∷ rest)) (sym (drop_at items i item lt is))
     (more_parts input item (drop (i + 1) items) piece rest one only are)))
 
 -- the name of an accepted part
-part_name_of : (input : List ℕ) (part : Part) → part_name (part_of input part) ≡ accepted_name part
-part_name_of input (Part.Copied start end) = refl
-part_name_of input (Part.Accepted f) = refl
-part_name_of input (Part.Carried start end line reason) = refl
+piece_name_of : (input : List ℕ) (part : Part) → piece_name (piece_of input part) ≡ accepted_name part
+piece_name_of input (Part.Copied start end) = refl
+piece_name_of input (Part.Accepted f) = refl
+piece_name_of input (Part.Carried start end line reason) = refl
 
-pub written_step : (input : List ℕ) (items : List Item) (i : ℕ) (item : Item) (part : Part) (out notes out' notes' : List ℕ) (names names' : List (List ℕ)) →
-    i < length items → item ≡ get_or items i item → WrittenSoFar input items i out notes names → IsPart input item (part_of input part) →
-    ((other : Piece) → IsPart input item other → other ≡ part_of input part) →
-    ((text : List ℕ) × IsPartText (part_of input part) text × (out' ≡ out ++ text)) → IsRefined (part_of input part) →
-    notes' ≡ notes ++ part_note (part_of input part) → names' ≡ names ++ accepted_names (part ∷ []) → WrittenSoFar input items (i + 1) out' notes' names'
-written_step input items i item part out notes out' notes' names names' lt is so_far one only put refined note name =
-    let piece = part_of input part in record {
+pub rendered_step : (input : List ℕ) (items : List Item) (i : ℕ) (item : Item) (part : Part) (out notes out' notes' : List ℕ) (names names' : List (List ℕ)) →
+    i < length items → item ≡ get_or items i item → RenderedSoFar input items i out notes names → IsPiece input item (piece_of input part) →
+    ((other : Piece) → IsPiece input item other → other ≡ piece_of input part) →
+    ((text : List ℕ) × IsPieceText (piece_of input part) text × (out' ≡ out ++ text)) → IsRefined (piece_of input part) →
+    notes' ≡ notes ++ piece_note (piece_of input part) → names' ≡ names ++ accepted_names (part ∷ []) → RenderedSoFar input items (i + 1) out' notes' names'
+rendered_step input items i item part out notes out' notes' names names' lt is so_far one only put refined note name =
+    let piece = piece_of input part in record {
       pieces = so_far.pieces ++ piece ∷ [];
       with_rest = rest_with input items i item piece so_far.pieces lt is so_far.with_rest one only;
       texts = subst (λ o. AreTexts (so_far.pieces ++ piece ∷ []) o) (sym put.2) (texts-last so_far.pieces piece out put.0 so_far.texts put.1);
-      notes_are = note ∙ ap (λ n. n ++ part_note piece) so_far.notes_are ∙ sym (notes-last so_far.pieces piece);
+      notes_are = note ∙ ap (λ n. n ++ piece_note piece) so_far.notes_are ∙ sym (notes-last so_far.pieces piece);
       names_are =
           name ∙ ap (λ n. n ++ accepted_names (part ∷ [])) so_far.names_are
-          ∙ ap (λ o. function_names so_far.pieces ++ cons_option o []) (sym (part_name_of input part)) ∙ sym (names-last so_far.pieces piece);
+          ∙ ap (λ o. function_names so_far.pieces ++ cons_option o []) (sym (piece_name_of input part)) ∙ sym (names-last so_far.pieces piece);
       refined = all-last so_far.pieces piece so_far.refined refined;
     }
 
@@ -239,20 +239,20 @@ get_or_any (x ∷ xs) zero d e lt = refl
 get_or_any (x ∷ xs) (suc i) d e lt = get_or_any xs i d e (omega arith)
 
 -- the same where the item is the one at the place
-pub written_next : (input : List ℕ) (items : List Item) (i : ℕ) (d : Item) (part : Part) (out notes out' notes' : List ℕ) (names names' : List (List ℕ)) →
-    i < length items → WrittenSoFar input items i out notes names → IsPart input (get_or items i d) (part_of input part) →
-    ((other : Piece) → IsPart input (get_or items i d) other → other ≡ part_of input part) →
-    ((text : List ℕ) × IsPartText (part_of input part) text × (out' ≡ out ++ text)) → IsRefined (part_of input part) →
-    notes' ≡ notes ++ part_note (part_of input part) → names' ≡ names ++ accepted_names (part ∷ []) → WrittenSoFar input items (i + 1) out' notes' names'
-written_next input items i d part out notes out' notes' names names' lt =
-    written_step input items i (get_or items i d) part out notes out' notes' names names' lt (get_or_any items i d (get_or items i d) lt)
+pub rendered_next : (input : List ℕ) (items : List Item) (i : ℕ) (d : Item) (part : Part) (out notes out' notes' : List ℕ) (names names' : List (List ℕ)) →
+    i < length items → RenderedSoFar input items i out notes names → IsPiece input (get_or items i d) (piece_of input part) →
+    ((other : Piece) → IsPiece input (get_or items i d) other → other ≡ piece_of input part) →
+    ((text : List ℕ) × IsPieceText (piece_of input part) text × (out' ≡ out ++ text)) → IsRefined (piece_of input part) →
+    notes' ≡ notes ++ piece_note (piece_of input part) → names' ≡ names ++ accepted_names (part ∷ []) → RenderedSoFar input items (i + 1) out' notes' names'
+rendered_next input items i d part out notes out' notes' names names' lt =
+    rendered_step input items i (get_or items i d) part out notes out' notes' names names' lt (get_or_any items i d (get_or items i d) lt)
 
-pub written_end : (input : List ℕ) (items : List Item) (i : ℕ) (out notes : List ℕ) (names : List (List ℕ)) → length items ≤ i →
-    WrittenSoFar input items i out notes names → Written input items out notes names
-written_end input items i out notes names past so_far =
-    let only : OnlyParts input items so_far.pieces =
-    subst (λ ps. OnlyParts input items ps) (append-nil so_far.pieces)
-    (so_far.with_rest [] (subst (λ is. OnlyParts input is []) (sym (drop_all i items past)) (no_parts input))) in record {
+pub rendered_end : (input : List ℕ) (items : List Item) (i : ℕ) (out notes : List ℕ) (names : List (List ℕ)) → length items ≤ i →
+    RenderedSoFar input items i out notes names → Rendered input items out notes names
+rendered_end input items i out notes names past so_far =
+    let only : OnlyPieces input items so_far.pieces =
+    subst (λ ps. OnlyPieces input items ps) (append-nil so_far.pieces)
+    (so_far.with_rest [] (subst (λ is. OnlyPieces input is []) (sym (drop_all i items past)) (no_parts input))) in record {
       pieces = so_far.pieces;
       are = only.are;
       only = only.only;
@@ -265,71 +265,71 @@ written_end input items i out notes names past so_far =
 -- ---- modules
 
 -- what is written of an input that is split
-pub record WrittenOf (input out notes : List ℕ) (names : List (List ℕ)) : Type 0 where
+pub record RenderedOf (input out notes : List ℕ) (names : List (List ℕ)) : Type 0 where
   pub items : List Item
   pub split : split_of input ≡ Ok items
-  pub written : Written input items out notes names
+  pub written : Rendered input items out notes names
 
-pub written_of : (input out notes : List ℕ) (items seen : List Item) (names given : List (List ℕ)) → split_of input ≡ Ok items → seen ≡ items →
-    given ≡ names → Written input seen out notes names → WrittenOf input out notes given
-written_of input out notes items seen names given split is same written = record {
+pub rendered_of : (input out notes : List ℕ) (items seen : List Item) (names given : List (List ℕ)) → split_of input ≡ Ok items → seen ≡ items →
+    given ≡ names → Rendered input seen out notes names → RenderedOf input out notes given
+rendered_of input out notes items seen names given split is same written = record {
   items = seen;
   split = split ∙ ap (λ x. Ok x) (sym is);
-  written = subst (λ n. Written input seen out notes n) (sym same) written;
+  written = subst (λ n. Rendered input seen out notes n) (sym same) written;
 }
 
-splits_only : (input out notes : List ℕ) (names : List (List ℕ)) (w : WrittenOf input out notes names) (others : List Piece) → Splits input others →
-    others ≡ w.written.pieces
+splits_only : (input out notes : List ℕ) (names : List (List ℕ)) (w : RenderedOf input out notes names) (others : List Piece) → Splits input others →
+    others ≡ w.rendered.pieces
 splits_only input out notes names w others s =
     let same : s.items ≡ w.items = cc (w.split, s.split) in
-    w.written.only others (subst (λ is. AreParts input is others) same s.are)
+    w.rendered.only others (subst (λ is. ArePieces input is others) same s.are)
 
-splits_so : (input out notes : List ℕ) (names : List (List ℕ)) (w : WrittenOf input out notes names) → Splits input w.written.pieces
-splits_so input out notes names w = record { items = w.items; split = w.split; are = w.written.are }
+splits_so : (input out notes : List ℕ) (names : List (List ℕ)) (w : RenderedOf input out notes names) → Splits input w.rendered.pieces
+splits_so input out notes names w = record { items = w.items; split = w.split; are = w.rendered.are }
 
-pub text_so : (input out notes : List ℕ) (names : List (List ℕ)) → WrittenOf input out notes names → first_repeated [] names ≡ None →
+pub text_so : (input out notes : List ℕ) (names : List (List ℕ)) → RenderedOf input out notes names → first_repeated [] names ≡ None →
     IsModuleText input out notes
 text_so input out notes names w distinct = record {
-  parts = w.written.pieces;
+  parts = w.rendered.pieces;
   «module» = record {
     splits = splits_so input out notes names w;
-    distinct = ap (first_repeated []) (sym w.written.names_are) ∙ distinct;
+    distinct = ap (first_repeated []) (sym w.rendered.names_are) ∙ distinct;
   };
-  texts = w.written.texts;
-  notes_are = w.written.notes_are;
+  texts = w.rendered.texts;
+  notes_are = w.rendered.notes_are;
 }
 
-pub refined_so : (input out notes : List ℕ) (names : List (List ℕ)) → WrittenOf input out notes names → (others : List Piece) → IsModule input others →
+pub refined_so : (input out notes : List ℕ) (names : List (List ℕ)) → RenderedOf input out notes names → (others : List Piece) → IsModule input others →
     All IsRefined others
 refined_so input out notes names w others m =
-    subst (λ ps. All IsRefined ps) (sym (splits_only input out notes names w others m.splits)) w.written.refined
+    subst (λ ps. All IsRefined ps) (sym (splits_only input out notes names w others m.splits)) w.rendered.refined
 
-repeats_so : (input out notes : List ℕ) (names : List (List ℕ)) (name : List ℕ) → WrittenOf input out notes names → first_repeated [] names ≡ Some name →
+repeats_so : (input out notes : List ℕ) (names : List (List ℕ)) (name : List ℕ) → RenderedOf input out notes names → first_repeated [] names ≡ Some name →
     RepeatsName input name
 repeats_so input out notes names name w repeated = record {
-  parts = w.written.pieces;
+  parts = w.rendered.pieces;
   splits = splits_so input out notes names w;
-  repeated = ap (first_repeated []) (sym w.written.names_are) ∙ repeated;
+  repeated = ap (first_repeated []) (sym w.rendered.names_are) ∙ repeated;
 }
 
 -- the names of any parts of the input
-names_only : (input out notes : List ℕ) (names : List (List ℕ)) → WrittenOf input out notes names → (others : List Piece) → Splits input others →
+names_only : (input out notes : List ℕ) (names : List (List ℕ)) → RenderedOf input out notes names → (others : List Piece) → Splits input others →
     names ≡ function_names others
 names_only input out notes names w others s =
-    w.written.names_are ∙ ap function_names (sym (splits_only input out notes names w others s))
+    w.rendered.names_are ∙ ap function_names (sym (splits_only input out notes names w others s))
 
-repeats_only : (input out notes : List ℕ) (names : List (List ℕ)) (name : List ℕ) → WrittenOf input out notes names → RepeatsName input name →
+repeats_only : (input out notes : List ℕ) (names : List (List ℕ)) (name : List ℕ) → RenderedOf input out notes names → RepeatsName input name →
     first_repeated [] names ≡ Some name
 repeats_only input out notes names name w r =
     ap (first_repeated []) (names_only input out notes names w r.parts r.splits) ∙ r.repeated
 
-module_only : (input out notes : List ℕ) (names : List (List ℕ)) → WrittenOf input out notes names → (others : List Piece) → IsModule input others →
+module_only : (input out notes : List ℕ) (names : List (List ℕ)) → RenderedOf input out notes names → (others : List Piece) → IsModule input others →
     first_repeated [] names ≡ None
 module_only input out notes names w others m =
     ap (first_repeated []) (names_only input out notes names w others m.splits) ∙ m.distinct
 
 -- what refuses for a repeated name
-pub refused_so : (input out notes : List ℕ) (names : List (List ℕ)) (e : Refused) → length input ≤ most → WrittenOf input out notes names →
+pub refused_so : (input out notes : List ℕ) (names : List (List ℕ)) (e : Refused) → length input ≤ most → RenderedOf input out notes names →
     (e ≡ Refused.Memory) ⊎ RefusedFor (first_repeated [] names) e → (e ≡ Refused.Memory) ⊎ IsRefusal input e
 refused_so input out notes names e limit w (inl memory) = inl memory
 refused_so input out notes names Refused.TooLong limit w (inr unlike) = absurd unlike
@@ -339,7 +339,7 @@ refused_so input out notes names (Refused.DuplicateFunction name) limit w (inr i
     inr (record { limit = limit; holds = repeats_so input out notes names name w is })
 refused_so input out notes names Refused.Memory limit w (inr unlike) = absurd unlike
 
-pub answers_so : (input out notes : List ℕ) (names : List (List ℕ)) (e : Refused) → WrittenOf input out notes names →
+pub answers_so : (input out notes : List ℕ) (names : List (List ℕ)) (e : Refused) → RenderedOf input out notes names →
     (e ≡ Refused.Memory) ⊎ RefusedFor (first_repeated [] names) e → (others : List Piece) → IsModule input others → e ≡ Refused.Memory
 answers_so input out notes names e w (inl memory) others m = memory
 answers_so input out notes names Refused.TooLong w (inr unlike) others m = absurd unlike
@@ -350,7 +350,7 @@ answers_so input out notes names (Refused.DuplicateFunction name) w (inr is) oth
 answers_so input out notes names Refused.Memory w (inr unlike) others m = refl
 
 -- where the input is split, it is refused for a repeated name alone
-pub refusal_of : (input out notes : List ℕ) (names : List (List ℕ)) (reason : Refused) → length input ≤ most → WrittenOf input out notes names →
+pub refusal_of : (input out notes : List ℕ) (names : List (List ℕ)) (reason : Refused) → length input ≤ most → RenderedOf input out notes names →
     IsRefusal input reason → RefusedFor (first_repeated [] names) reason
 refusal_of input out notes names Refused.TooLong limit w is = absurd (omega (arith, limit, is))
 refusal_of input out notes names (Refused.Unclosed n) limit w is = let s = is.holds in cc (w.split, s)
@@ -369,7 +369,7 @@ same_refusal repeated (Refused.DuplicateFunction a) (Refused.Unclosed n) is has 
 same_refusal repeated (Refused.DuplicateFunction a) (Refused.BadLine n) is has = absurd is
 same_refusal repeated (Refused.DuplicateFunction a) Refused.Memory is has = absurd is
 
-pub refuses_so : (input out notes : List ℕ) (names : List (List ℕ)) (e reason : Refused) → length input ≤ most → WrittenOf input out notes names →
+pub refuses_so : (input out notes : List ℕ) (names : List (List ℕ)) (e reason : Refused) → length input ≤ most → RenderedOf input out notes names →
     (e ≡ Refused.Memory) ⊎ RefusedFor (first_repeated [] names) e → IsRefusal input reason → (e ≡ reason) ⊎ (e ≡ Refused.Memory)
 refuses_so input out notes names e reason limit w (inl memory) is = inr memory
 refuses_so input out notes names e reason limit w (inr has) is =
@@ -382,7 +382,7 @@ not_refused (Refused.BadLine n) is = is
 not_refused (Refused.DuplicateFunction name) is = cc
 not_refused Refused.Memory is = is
 
-pub no_refusal : (input out notes : List ℕ) (names : List (List ℕ)) (reason : Refused) → length input ≤ most → WrittenOf input out notes names →
+pub no_refusal : (input out notes : List ℕ) (names : List (List ℕ)) (reason : Refused) → length input ≤ most → RenderedOf input out notes names →
     first_repeated [] names ≡ None → IsRefusal input reason → ⊥
 no_refusal input out notes names reason limit w distinct is =
     not_refused reason (subst (λ r. RefusedFor r reason) distinct (refusal_of input out notes names reason limit w is))

@@ -1,0 +1,1 @@
+//! Laws of modules, which hold of every command and input.
