@@ -1,5 +1,6 @@
 -- The words of a command, which stand after the name of the program, and the input that a command works on.
-use Rattle.std.specs.Prelude.{ℕ, ◌≡◌, List, [], ◌∷◌, map, Some, codes, String, Global, string_bytes}
+use Rattle.std.specs.Prelude.{ℕ, ◌≡◌, List, [], ◌∷◌, map, Some, codes, String, string_bytes}
+use Rattle.std.specs.Global.{Global}
 use Rattle.vfa_io.specs.States.{SourceState, Change}
 use Rattle.vfa.specs.declared.command.Job.{Job}
 use Rattle.vfa.specs.declared.command.Command.{Command}

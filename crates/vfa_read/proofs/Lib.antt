@@ -8,6 +8,7 @@ mod CallReaders
 mod CalleeNames
 mod Definitions
 mod DigitLemmas
+mod EachText
 mod Exact
 mod FitsEach
 mod FormReaders
@@ -21,6 +22,7 @@ mod LiteralBits
 mod Loops
 mod Many
 mod NameCounts
+mod NameLaws
 mod NumberRanges
 mod OperationReaders
 mod Places

@@ -1,3 +1,4 @@
+pub mod Definedness
 pub mod Headers
 pub mod Productions
 pub mod Readers

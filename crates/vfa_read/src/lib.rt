@@ -1,8 +1,10 @@
 //! The reader of functions: from the tokens of a define to its function.
 #![tactic(auto)]
 
+mod acceptance;
 mod blocks;
 mod calls;
+mod definedness;
 mod extents;
 mod forms;
 mod headers;
@@ -25,6 +27,8 @@ mod tails;
 mod tests;
 mod transfers;
 
+pub use acceptance::{accepted_has_no_reason, accepted_or_reason, one_reason};
+pub use definedness::{defined_once, first_defined_again, first_undefined, used_defined};
 pub use laws::{one_reading, one_tree, sentence_or_shape};
 pub use names::token_name;
 pub use reading::{ReadFunction, read_function};
