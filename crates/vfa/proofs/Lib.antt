@@ -21,3 +21,4 @@ mod FirstGlobals
 mod NameSets
 mod PieceLists
 mod FoldPrintable
+mod EachInput

@@ -62,7 +62,11 @@ fn answer(alloc: Global, command: Command, input: &[u8]) -> Result<ModuleText, S
 }
 
 // The text and the notes for all that the source has left.
-fn answer_source<S: Source>(alloc: Global, command: Command, source: &mut S) -> Result<ModuleText, Stop>
+fn answer_source<S: Source>(
+    alloc: Global,
+    command: Command,
+    source: &mut S,
+) -> Result<ModuleText, Stop>
     ensures answer { (input : List ℕ) → IsInputOf command.job (S.state source.old) input →
         IfOk result (λ text. IsAnswer command input text.out.items text.notes.items) }
     ensures end { (input : List ℕ) → IsInputOf command.job (S.state source.old) input →

@@ -73,7 +73,10 @@ fn push_notes(
     ensures { OnOk result (notes.new.items ≡ notes.old.items ++ piece_note (piece_of bytes.now part.now)) }
 {
     if let Part::Carried {
-        line, name, reason, ..
+        line,
+        name,
+        reason,
+        ..
     } = part
     {
         push_note(alloc, notes, name.bytes(), *line, reason)?;
