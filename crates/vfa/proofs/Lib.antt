@@ -22,3 +22,4 @@ mod NameSets
 mod PieceLists
 mod FoldPrintable
 mod EachInput
+mod SourceInputs

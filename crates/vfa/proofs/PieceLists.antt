@@ -1,4 +1,4 @@
--- The parts of a module: at most one list of parts belongs to its items. What is written of them gives the module's text.
+-- The pieces of a module: at most one list of pieces belongs to its items. What is written of them gives the module's text.
 use Rattle.std.proofs.Common.{◌≡◌, ◌<◌, ◌≤◌, ◌+◌, ◌⊎◌, inl, inr, ℕ, zero, suc, Option, Some, None, Result, Ok, Err, List, [], ◌∷◌, ◌++◌, length, drop, get_or, refl, sym, ap, subst, ◌∙◌, arith, slice_range, append_assoc, append-nil}
 use Rattle.std.specs.Prelude.{All, IfOk, IfErr, OnOk}
 use Rattle.std.specs.List.{AllByRecursion, cons_option}
@@ -14,6 +14,8 @@ use Rattle.vfa_ir.specs.Tokens.{tokens_of}
 use Rattle.vfa_module.specs.declared.items.Item.{Item}
 use Rattle.vfa_module.specs.Split.{Cover, start_of, end_of, split_of}
 use Rattle.vfa_read.specs.declared.reading.ReadFunction.{ReadFunction}
+use Rattle.vfa.specs.declared.command.Command.{Command}
+use Rattle.vfa.specs.declared.command.Job.{Job}
 use Rattle.vfa.specs.declared.modules.Refused.{Refused}
 use Rattle.vfa.specs.declared.modules.parts.Part.{Part}
 use Rattle.vfa.specs.Module.{Piece, copied, accepted, carried, IsPiece, ArePieces, IsPieceText, AreTexts, piece_name, piece_note, function_names, notes_of, Splits, IsModule, IsModuleText, RepeatsName}
@@ -153,12 +155,12 @@ more_parts input item items part parts is one rest =
 
 -- ---- what is written of a list of parts
 
-texts-last : (pieces : List Piece) (piece : Piece) (out text : List ℕ) → AreTexts pieces out → IsPieceText piece text →
-    AreTexts (pieces ++ piece ∷ []) (out ++ text)
-texts-last [] piece out text are is =
-    subst (λ o. AreTexts (piece ∷ []) (o ++ text)) (sym are) (text, [], is, refl, sym (append-nil text))
-texts-last (p ∷ pieces) piece out text are is =
-    (are.0, are.1 ++ text, are.2, texts-last pieces piece are.1 text are.3 is, ap (λ o. o ++ text) are.4 ∙ append_assoc are.0 are.1 text)
+texts-last : (command : Command) (pieces : List Piece) (piece : Piece) (out text : List ℕ) → AreTexts command pieces out → IsPieceText command.job piece text →
+    AreTexts command (pieces ++ piece ∷ []) (out ++ text)
+texts-last command [] piece out text are is =
+    subst (λ o. AreTexts command (piece ∷ []) (o ++ text)) (sym are) (text, [], is, refl, sym (append-nil text))
+texts-last command (p ∷ pieces) piece out text are is =
+    (are.0, are.1 ++ text, are.2, texts-last command pieces piece are.1 text are.3 is, ap (λ o. o ++ text) are.4 ∙ append_assoc are.0 are.1 text)
 
 notes-last : (pieces : List Piece) (piece : Piece) → notes_of (pieces ++ piece ∷ []) ≡ notes_of pieces ++ piece_note piece
 notes-last [] piece = append-nil (piece_note piece)
@@ -175,23 +177,23 @@ names-last (p ∷ pieces) piece =
     ap (cons_option (piece_name p)) (names-last pieces piece)
     ∙ cons_option-append (piece_name p) (function_names pieces) (function_names (piece ∷ []))
 
-all-last : (pieces : List Piece) (piece : Piece) → AllByRecursion IsRefined pieces → IsRefined piece → AllByRecursion IsRefined (pieces ++ piece ∷ [])
-all-last [] piece all one = (one, tt)
-all-last (p ∷ pieces) piece all one = (all.0, all-last pieces piece all.1 one)
+all-last : (job : Job) (pieces : List Piece) (piece : Piece) → AllByRecursion (IsRefined job) pieces → IsRefined job piece → AllByRecursion (IsRefined job) (pieces ++ piece ∷ [])
+all-last job [] piece all one = (one, tt)
+all-last job (p ∷ pieces) piece all one = (all.0, all-last job pieces piece all.1 one)
 
 -- the parts of the items before i and what is written of them: with those of the items from i on they are those of all
 -- items
-pub record RenderedSoFar (input : List ℕ) (items : List Item) (i : ℕ) (out notes : List ℕ) (names : List (List ℕ)) : Type 0 where
+pub record RenderedSoFar (command : Command) (input : List ℕ) (items : List Item) (i : ℕ) (out notes : List ℕ) (names : List (List ℕ)) : Type 0 where
   pub pieces : List Piece
   pub with_rest : (rest : List Piece) → OnlyPieces input (drop i items) rest → OnlyPieces input items (pieces ++ rest)
-  pub texts : AreTexts pieces out
+  pub texts : AreTexts command pieces out
   pub notes_are : notes ≡ notes_of pieces
   pub names_are : names ≡ function_names pieces
-  pub refined : AllByRecursion IsRefined pieces
+  pub refined : AllByRecursion (IsRefined command.job) pieces
 
-pub rendered_init : (input : List ℕ) (items : List Item) (out notes : List ℕ) (names : List (List ℕ)) → out ≡ [] → notes ≡ [] → names ≡ [] →
-    RenderedSoFar input items 0 out notes names
-rendered_init input items out notes names no_out no_notes no_names = record {
+pub rendered_init : (command : Command) (input : List ℕ) (items : List Item) (out notes : List ℕ) (names : List (List ℕ)) → out ≡ [] → notes ≡ [] → names ≡ [] →
+    RenderedSoFar command input items 0 out notes names
+rendered_init command input items out notes names no_out no_notes no_names = record {
   pieces = [];
   with_rest = λ rest are. are;
   texts = no_out;
@@ -214,23 +216,23 @@ rest_with input items i item piece pieces lt is so_far one only rest are =
 piece_name_of : (input : List ℕ) (part : Part) → piece_name (piece_of input part) ≡ accepted_name part
 piece_name_of input (Part.Copied start end) = refl
 piece_name_of input (Part.Accepted f) = refl
-piece_name_of input (Part.Carried start end line reason) = refl
+piece_name_of input (Part.Carried start end line name reason) = refl
 
-pub rendered_step : (input : List ℕ) (items : List Item) (i : ℕ) (item : Item) (part : Part) (out notes out' notes' : List ℕ) (names names' : List (List ℕ)) →
-    i < length items → item ≡ get_or items i item → RenderedSoFar input items i out notes names → IsPiece input item (piece_of input part) →
+pub rendered_step : (command : Command) (input : List ℕ) (items : List Item) (i : ℕ) (item : Item) (part : Part) (out notes out' notes' : List ℕ) (names names' : List (List ℕ)) →
+    i < length items → item ≡ get_or items i item → RenderedSoFar command input items i out notes names → IsPiece input item (piece_of input part) →
     ((other : Piece) → IsPiece input item other → other ≡ piece_of input part) →
-    ((text : List ℕ) × IsPieceText (piece_of input part) text × (out' ≡ out ++ text)) → IsRefined (piece_of input part) →
-    notes' ≡ notes ++ piece_note (piece_of input part) → names' ≡ names ++ accepted_names (part ∷ []) → RenderedSoFar input items (i + 1) out' notes' names'
-rendered_step input items i item part out notes out' notes' names names' lt is so_far one only put refined note name =
+    ((text : List ℕ) × IsPieceText command.job (piece_of input part) text × (out' ≡ out ++ text)) → IsRefined command.job (piece_of input part) →
+    notes' ≡ notes ++ piece_note (piece_of input part) → names' ≡ names ++ accepted_names (part ∷ []) → RenderedSoFar command input items (i + 1) out' notes' names'
+rendered_step command input items i item part out notes out' notes' names names' lt is so_far one only put refined note name =
     let piece = piece_of input part in record {
       pieces = so_far.pieces ++ piece ∷ [];
       with_rest = rest_with input items i item piece so_far.pieces lt is so_far.with_rest one only;
-      texts = subst (λ o. AreTexts (so_far.pieces ++ piece ∷ []) o) (sym put.2) (texts-last so_far.pieces piece out put.0 so_far.texts put.1);
+      texts = subst (λ o. AreTexts command (so_far.pieces ++ piece ∷ []) o) (sym put.2) (texts-last command so_far.pieces piece out put.0 so_far.texts put.1);
       notes_are = note ∙ ap (λ n. n ++ piece_note piece) so_far.notes_are ∙ sym (notes-last so_far.pieces piece);
       names_are =
           name ∙ ap (λ n. n ++ accepted_names (part ∷ [])) so_far.names_are
           ∙ ap (λ o. function_names so_far.pieces ++ cons_option o []) (sym (piece_name_of input part)) ∙ sym (names-last so_far.pieces piece);
-      refined = all-last so_far.pieces piece so_far.refined refined;
+      refined = all-last command.job so_far.pieces piece so_far.refined refined;
     }
 
 get_or_any : {A : Type 0} (xs : List A) (i : ℕ) (d e : A) → i < length xs → get_or xs i d ≡ get_or xs i e
@@ -239,17 +241,17 @@ get_or_any (x ∷ xs) zero d e lt = refl
 get_or_any (x ∷ xs) (suc i) d e lt = get_or_any xs i d e (omega arith)
 
 -- the same where the item is the one at the place
-pub rendered_next : (input : List ℕ) (items : List Item) (i : ℕ) (d : Item) (part : Part) (out notes out' notes' : List ℕ) (names names' : List (List ℕ)) →
-    i < length items → RenderedSoFar input items i out notes names → IsPiece input (get_or items i d) (piece_of input part) →
+pub rendered_next : (command : Command) (input : List ℕ) (items : List Item) (i : ℕ) (d : Item) (part : Part) (out notes out' notes' : List ℕ) (names names' : List (List ℕ)) →
+    i < length items → RenderedSoFar command input items i out notes names → IsPiece input (get_or items i d) (piece_of input part) →
     ((other : Piece) → IsPiece input (get_or items i d) other → other ≡ piece_of input part) →
-    ((text : List ℕ) × IsPieceText (piece_of input part) text × (out' ≡ out ++ text)) → IsRefined (piece_of input part) →
-    notes' ≡ notes ++ piece_note (piece_of input part) → names' ≡ names ++ accepted_names (part ∷ []) → RenderedSoFar input items (i + 1) out' notes' names'
-rendered_next input items i d part out notes out' notes' names names' lt =
-    rendered_step input items i (get_or items i d) part out notes out' notes' names names' lt (get_or_any items i d (get_or items i d) lt)
+    ((text : List ℕ) × IsPieceText command.job (piece_of input part) text × (out' ≡ out ++ text)) → IsRefined command.job (piece_of input part) →
+    notes' ≡ notes ++ piece_note (piece_of input part) → names' ≡ names ++ accepted_names (part ∷ []) → RenderedSoFar command input items (i + 1) out' notes' names'
+rendered_next command input items i d part out notes out' notes' names names' lt =
+    rendered_step command input items i (get_or items i d) part out notes out' notes' names names' lt (get_or_any items i d (get_or items i d) lt)
 
-pub rendered_end : (input : List ℕ) (items : List Item) (i : ℕ) (out notes : List ℕ) (names : List (List ℕ)) → length items ≤ i →
-    RenderedSoFar input items i out notes names → Rendered input items out notes names
-rendered_end input items i out notes names past so_far =
+pub rendered_end : (command : Command) (input : List ℕ) (items : List Item) (i : ℕ) (out notes : List ℕ) (names : List (List ℕ)) → length items ≤ i →
+    RenderedSoFar command input items i out notes names → Rendered command input items out notes names
+rendered_end command input items i out notes names past so_far =
     let only : OnlyPieces input items so_far.pieces =
     subst (λ ps. OnlyPieces input items ps) (append-nil so_far.pieces)
     (so_far.with_rest [] (subst (λ is. OnlyPieces input is []) (sym (drop_all i items past)) (no_parts input))) in record {
@@ -259,104 +261,104 @@ rendered_end input items i out notes names past so_far =
       texts = so_far.texts;
       notes_are = so_far.notes_are;
       names_are = so_far.names_are;
-      refined = All-from_recursion IsRefined so_far.pieces so_far.refined;
+      refined = All-from_recursion (IsRefined command.job) so_far.pieces so_far.refined;
     }
 
 -- ---- modules
 
 -- what is written of an input that is split
-pub record RenderedOf (input out notes : List ℕ) (names : List (List ℕ)) : Type 0 where
+pub record RenderedOf (command : Command) (input out notes : List ℕ) (names : List (List ℕ)) : Type 0 where
   pub items : List Item
   pub split : split_of input ≡ Ok items
-  pub written : Rendered input items out notes names
+  pub rendered : Rendered command input items out notes names
 
-pub rendered_of : (input out notes : List ℕ) (items seen : List Item) (names given : List (List ℕ)) → split_of input ≡ Ok items → seen ≡ items →
-    given ≡ names → Rendered input seen out notes names → RenderedOf input out notes given
-rendered_of input out notes items seen names given split is same written = record {
+pub rendered_of : (command : Command) (input out notes : List ℕ) (items seen : List Item) (names given : List (List ℕ)) → split_of input ≡ Ok items → seen ≡ items →
+    given ≡ names → Rendered command input seen out notes names → RenderedOf command input out notes given
+rendered_of command input out notes items seen names given split is same done = record {
   items = seen;
   split = split ∙ ap (λ x. Ok x) (sym is);
-  written = subst (λ n. Rendered input seen out notes n) (sym same) written;
+  rendered = subst (λ n. Rendered command input seen out notes n) (sym same) done;
 }
 
-splits_only : (input out notes : List ℕ) (names : List (List ℕ)) (w : RenderedOf input out notes names) (others : List Piece) → Splits input others →
+splits_only : (command : Command) (input out notes : List ℕ) (names : List (List ℕ)) (w : RenderedOf command input out notes names) (others : List Piece) → Splits input others →
     others ≡ w.rendered.pieces
-splits_only input out notes names w others s =
+splits_only command input out notes names w others s =
     let same : s.items ≡ w.items = cc (w.split, s.split) in
     w.rendered.only others (subst (λ is. ArePieces input is others) same s.are)
 
-splits_so : (input out notes : List ℕ) (names : List (List ℕ)) (w : RenderedOf input out notes names) → Splits input w.rendered.pieces
-splits_so input out notes names w = record { items = w.items; split = w.split; are = w.rendered.are }
+splits_so : (command : Command) (input out notes : List ℕ) (names : List (List ℕ)) (w : RenderedOf command input out notes names) → Splits input w.rendered.pieces
+splits_so command input out notes names w = record { items = w.items; split = w.split; are = w.rendered.are }
 
-pub text_so : (input out notes : List ℕ) (names : List (List ℕ)) → RenderedOf input out notes names → first_repeated [] names ≡ None →
-    IsModuleText input out notes
-text_so input out notes names w distinct = record {
-  parts = w.rendered.pieces;
+pub text_so : (command : Command) (input out notes : List ℕ) (names : List (List ℕ)) → RenderedOf command input out notes names → first_repeated [] names ≡ None →
+    IsModuleText command input out notes
+text_so command input out notes names w distinct = record {
+  pieces = w.rendered.pieces;
   «module» = record {
-    splits = splits_so input out notes names w;
+    splits = splits_so command input out notes names w;
     distinct = ap (first_repeated []) (sym w.rendered.names_are) ∙ distinct;
   };
   texts = w.rendered.texts;
   notes_are = w.rendered.notes_are;
 }
 
-pub refined_so : (input out notes : List ℕ) (names : List (List ℕ)) → RenderedOf input out notes names → (others : List Piece) → IsModule input others →
-    All IsRefined others
-refined_so input out notes names w others m =
-    subst (λ ps. All IsRefined ps) (sym (splits_only input out notes names w others m.splits)) w.rendered.refined
+pub refined_so : (command : Command) (input out notes : List ℕ) (names : List (List ℕ)) → RenderedOf command input out notes names → (others : List Piece) → IsModule command input others →
+    All (IsRefined command.job) others
+refined_so command input out notes names w others m =
+    subst (λ ps. All (IsRefined command.job) ps) (sym (splits_only command input out notes names w others m.splits)) w.rendered.refined
 
-repeats_so : (input out notes : List ℕ) (names : List (List ℕ)) (name : List ℕ) → RenderedOf input out notes names → first_repeated [] names ≡ Some name →
+repeats_so : (command : Command) (input out notes : List ℕ) (names : List (List ℕ)) (name : List ℕ) → RenderedOf command input out notes names → first_repeated [] names ≡ Some name →
     RepeatsName input name
-repeats_so input out notes names name w repeated = record {
-  parts = w.rendered.pieces;
-  splits = splits_so input out notes names w;
+repeats_so command input out notes names name w repeated = record {
+  pieces = w.rendered.pieces;
+  splits = splits_so command input out notes names w;
   repeated = ap (first_repeated []) (sym w.rendered.names_are) ∙ repeated;
 }
 
 -- the names of any parts of the input
-names_only : (input out notes : List ℕ) (names : List (List ℕ)) → RenderedOf input out notes names → (others : List Piece) → Splits input others →
+names_only : (command : Command) (input out notes : List ℕ) (names : List (List ℕ)) → RenderedOf command input out notes names → (others : List Piece) → Splits input others →
     names ≡ function_names others
-names_only input out notes names w others s =
-    w.rendered.names_are ∙ ap function_names (sym (splits_only input out notes names w others s))
+names_only command input out notes names w others s =
+    w.rendered.names_are ∙ ap function_names (sym (splits_only command input out notes names w others s))
 
-repeats_only : (input out notes : List ℕ) (names : List (List ℕ)) (name : List ℕ) → RenderedOf input out notes names → RepeatsName input name →
+repeats_only : (command : Command) (input out notes : List ℕ) (names : List (List ℕ)) (name : List ℕ) → RenderedOf command input out notes names → RepeatsName input name →
     first_repeated [] names ≡ Some name
-repeats_only input out notes names name w r =
-    ap (first_repeated []) (names_only input out notes names w r.parts r.splits) ∙ r.repeated
+repeats_only command input out notes names name w r =
+    ap (first_repeated []) (names_only command input out notes names w r.pieces r.splits) ∙ r.repeated
 
-module_only : (input out notes : List ℕ) (names : List (List ℕ)) → RenderedOf input out notes names → (others : List Piece) → IsModule input others →
+module_only : (command : Command) (input out notes : List ℕ) (names : List (List ℕ)) → RenderedOf command input out notes names → (others : List Piece) → IsModule command input others →
     first_repeated [] names ≡ None
-module_only input out notes names w others m =
-    ap (first_repeated []) (names_only input out notes names w others m.splits) ∙ m.distinct
+module_only command input out notes names w others m =
+    ap (first_repeated []) (names_only command input out notes names w others m.splits) ∙ m.distinct
 
 -- what refuses for a repeated name
-pub refused_so : (input out notes : List ℕ) (names : List (List ℕ)) (e : Refused) → length input ≤ most → RenderedOf input out notes names →
-    (e ≡ Refused.Memory) ⊎ RefusedFor (first_repeated [] names) e → (e ≡ Refused.Memory) ⊎ IsRefusal input e
-refused_so input out notes names e limit w (inl memory) = inl memory
-refused_so input out notes names Refused.TooLong limit w (inr unlike) = absurd unlike
-refused_so input out notes names (Refused.Unclosed n) limit w (inr unlike) = absurd unlike
-refused_so input out notes names (Refused.BadLine n) limit w (inr unlike) = absurd unlike
-refused_so input out notes names (Refused.DuplicateFunction name) limit w (inr is) =
-    inr (record { limit = limit; holds = repeats_so input out notes names name w is })
-refused_so input out notes names Refused.Memory limit w (inr unlike) = absurd unlike
+pub refused_so : (command : Command) (input out notes : List ℕ) (names : List (List ℕ)) (e : Refused) → length input ≤ most → RenderedOf command input out notes names →
+    (e ≡ Refused.Memory) ⊎ RefusedFor (first_repeated [] names) e → (e ≡ Refused.Memory) ⊎ IsRefusal command input e
+refused_so command input out notes names e limit w (inl memory) = inl memory
+refused_so command input out notes names Refused.TooLong limit w (inr unlike) = absurd unlike
+refused_so command input out notes names (Refused.Unclosed n) limit w (inr unlike) = absurd unlike
+refused_so command input out notes names (Refused.BadLine n) limit w (inr unlike) = absurd unlike
+refused_so command input out notes names (Refused.DuplicateFunction name) limit w (inr is) =
+    inr (record { limit = limit; holds = repeats_so command input out notes names name w is })
+refused_so command input out notes names Refused.Memory limit w (inr unlike) = absurd unlike
 
-pub answers_so : (input out notes : List ℕ) (names : List (List ℕ)) (e : Refused) → RenderedOf input out notes names →
-    (e ≡ Refused.Memory) ⊎ RefusedFor (first_repeated [] names) e → (others : List Piece) → IsModule input others → e ≡ Refused.Memory
-answers_so input out notes names e w (inl memory) others m = memory
-answers_so input out notes names Refused.TooLong w (inr unlike) others m = absurd unlike
-answers_so input out notes names (Refused.Unclosed n) w (inr unlike) others m = absurd unlike
-answers_so input out notes names (Refused.BadLine n) w (inr unlike) others m = absurd unlike
-answers_so input out notes names (Refused.DuplicateFunction name) w (inr is) others m =
-    let none = module_only input out notes names w others m in cc
-answers_so input out notes names Refused.Memory w (inr unlike) others m = refl
+pub answers_so : (command : Command) (input out notes : List ℕ) (names : List (List ℕ)) (e : Refused) → RenderedOf command input out notes names →
+    (e ≡ Refused.Memory) ⊎ RefusedFor (first_repeated [] names) e → (others : List Piece) → IsModule command input others → e ≡ Refused.Memory
+answers_so command input out notes names e w (inl memory) others m = memory
+answers_so command input out notes names Refused.TooLong w (inr unlike) others m = absurd unlike
+answers_so command input out notes names (Refused.Unclosed n) w (inr unlike) others m = absurd unlike
+answers_so command input out notes names (Refused.BadLine n) w (inr unlike) others m = absurd unlike
+answers_so command input out notes names (Refused.DuplicateFunction name) w (inr is) others m =
+    let none = module_only command input out notes names w others m in cc
+answers_so command input out notes names Refused.Memory w (inr unlike) others m = refl
 
 -- where the input is split, it is refused for a repeated name alone
-pub refusal_of : (input out notes : List ℕ) (names : List (List ℕ)) (reason : Refused) → length input ≤ most → RenderedOf input out notes names →
-    IsRefusal input reason → RefusedFor (first_repeated [] names) reason
-refusal_of input out notes names Refused.TooLong limit w is = absurd (omega (arith, limit, is))
-refusal_of input out notes names (Refused.Unclosed n) limit w is = let s = is.holds in cc (w.split, s)
-refusal_of input out notes names (Refused.BadLine n) limit w is = let s = is.holds in cc (w.split, s)
-refusal_of input out notes names (Refused.DuplicateFunction name) limit w is = repeats_only input out notes names name w is.holds
-refusal_of input out notes names Refused.Memory limit w is = absurd is
+pub refusal_of : (command : Command) (input out notes : List ℕ) (names : List (List ℕ)) (reason : Refused) → length input ≤ most → RenderedOf command input out notes names →
+    IsRefusal command input reason → RefusedFor (first_repeated [] names) reason
+refusal_of command input out notes names Refused.TooLong limit w is = absurd (omega (arith, limit, is))
+refusal_of command input out notes names (Refused.Unclosed n) limit w is = let s = is.holds in cc (w.split, s)
+refusal_of command input out notes names (Refused.BadLine n) limit w is = let s = is.holds in cc (w.split, s)
+refusal_of command input out notes names (Refused.DuplicateFunction name) limit w is = repeats_only command input out notes names name w is.holds
+refusal_of command input out notes names Refused.Memory limit w is = absurd is
 
 same_refusal : (repeated : Option (List ℕ)) (e reason : Refused) → RefusedFor repeated reason → RefusedFor repeated e → e ≡ reason
 same_refusal repeated (Refused.DuplicateFunction a) (Refused.DuplicateFunction b) is has = let same : a ≡ b = cc in ap Refused.DuplicateFunction same
@@ -369,11 +371,11 @@ same_refusal repeated (Refused.DuplicateFunction a) (Refused.Unclosed n) is has 
 same_refusal repeated (Refused.DuplicateFunction a) (Refused.BadLine n) is has = absurd is
 same_refusal repeated (Refused.DuplicateFunction a) Refused.Memory is has = absurd is
 
-pub refuses_so : (input out notes : List ℕ) (names : List (List ℕ)) (e reason : Refused) → length input ≤ most → RenderedOf input out notes names →
-    (e ≡ Refused.Memory) ⊎ RefusedFor (first_repeated [] names) e → IsRefusal input reason → (e ≡ reason) ⊎ (e ≡ Refused.Memory)
-refuses_so input out notes names e reason limit w (inl memory) is = inr memory
-refuses_so input out notes names e reason limit w (inr has) is =
-    inl (same_refusal (first_repeated [] names) e reason (refusal_of input out notes names reason limit w is) has)
+pub refuses_so : (command : Command) (input out notes : List ℕ) (names : List (List ℕ)) (e reason : Refused) → length input ≤ most → RenderedOf command input out notes names →
+    (e ≡ Refused.Memory) ⊎ RefusedFor (first_repeated [] names) e → IsRefusal command input reason → (e ≡ reason) ⊎ (e ≡ Refused.Memory)
+refuses_so command input out notes names e reason limit w (inl memory) is = inr memory
+refuses_so command input out notes names e reason limit w (inr has) is =
+    inl (same_refusal (first_repeated [] names) e reason (refusal_of command input out notes names reason limit w is) has)
 
 not_refused : (reason : Refused) → RefusedFor None reason → ⊥
 not_refused Refused.TooLong is = is
@@ -382,7 +384,7 @@ not_refused (Refused.BadLine n) is = is
 not_refused (Refused.DuplicateFunction name) is = cc
 not_refused Refused.Memory is = is
 
-pub no_refusal : (input out notes : List ℕ) (names : List (List ℕ)) (reason : Refused) → length input ≤ most → RenderedOf input out notes names →
-    first_repeated [] names ≡ None → IsRefusal input reason → ⊥
-no_refusal input out notes names reason limit w distinct is =
-    not_refused reason (subst (λ r. RefusedFor r reason) distinct (refusal_of input out notes names reason limit w is))
+pub no_refusal : (command : Command) (input out notes : List ℕ) (names : List (List ℕ)) (reason : Refused) → length input ≤ most → RenderedOf command input out notes names →
+    first_repeated [] names ≡ None → IsRefusal command input reason → ⊥
+no_refusal command input out notes names reason limit w distinct is =
+    not_refused reason (subst (λ r. RefusedFor r reason) distinct (refusal_of command input out notes names reason limit w is))
