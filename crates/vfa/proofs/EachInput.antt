@@ -177,19 +177,19 @@ module _ (reading : OneReading) (reason : OneReason) (none : NoReason) where
       let r : d ≡ e = reason (slice_range input start end) d e (subst (λ x. IsReason x (tokens_of x) d) p.0 p.2) (subst (λ x. IsReason x (tokens_of x) e) q.0 q.2) in
       ap (λ x. carried x m d) (p.0 ∙ sym q.0) ∙ ap (λ x. carried t x d) (p.1 ∙ sym q.1) ∙ ap (λ x. carried t n x) r
 
-  one_list : (input : List ℕ) (items : List Item) (as bs : List Piece) → ArePieces input items as → ArePieces input items bs → as ≡ bs
+  one_list : (input : List ℕ) (items : List Item) (ps qs : List Piece) → ArePieces input items ps → ArePieces input items qs → ps ≡ qs
   one_list input [] [] [] p q = refl
-  one_list input [] [] (b ∷ bs) p q = absurd q
-  one_list input [] (a ∷ as) bs p q = absurd p
-  one_list input (item ∷ items) [] bs p q = absurd p
-  one_list input (item ∷ items) (a ∷ as) [] p q = absurd q
-  one_list input (item ∷ items) (a ∷ as) (b ∷ bs) p q =
-      ap (λ x. x ∷ as) (one_piece input item a b p.0 q.0) ∙ ap (λ xs. b ∷ xs) (one_list input items as bs p.1 q.1)
+  one_list input [] [] (b ∷ qs) p q = absurd q
+  one_list input [] (a ∷ ps) qs p q = absurd p
+  one_list input (item ∷ items) [] qs p q = absurd p
+  one_list input (item ∷ items) (a ∷ ps) [] p q = absurd q
+  one_list input (item ∷ items) (a ∷ ps) (b ∷ qs) p q =
+      ap (λ x. x ∷ ps) (one_piece input item a b p.0 q.0) ∙ ap (λ xs. b ∷ xs) (one_list input items ps qs p.1 q.1)
 
-  one_split : (input : List ℕ) (as bs : List Piece) → Splits input as → Splits input bs → as ≡ bs
-  one_split input as bs p q =
+  one_split : (input : List ℕ) (ps qs : List Piece) → Splits input ps → Splits input qs → ps ≡ qs
+  one_split input ps qs p q =
       let same : p.items ≡ q.items = ok_same p.items q.items (sym p.split ∙ q.split) in
-      one_list input q.items as bs (subst (λ i. ArePieces input i as) same p.are) q.are
+      one_list input q.items ps qs (subst (λ i. ArePieces input i ps) same p.are) q.are
 
   -- ---- at most one text
 
