@@ -5,11 +5,15 @@
 
 PROGRAM is the built program (crates/vfa/out/vfa once `rt run` has built it). Each number from FIRST to LAST seeds a
 module of random functions of the profile. `opt -S` has to make the same text of the input and of what vfa printed, but for
-what vfa drops (metadata behind instructions, `tail` and `notail`), none may be carried, and printing again must change
+what vfa drops (metadata after instructions, `tail` and `notail`), none may be carried, and printing again must change
 nothing. Modules in which a function is folded may differ; they are shown.
+
+The status is 0 where there is nothing to look at, 1 where there is, and 2 where the words are wrong or no opt is found.
 """
+import itertools
 import random
 import re
+import shutil
 import subprocess
 import sys
 
@@ -208,16 +212,29 @@ def module(seed):
     return f"; random\n\n{functions}\n\nattributes #0 = {{ nounwind }}\n!0 = !{{i32 1}}\n{declarations(functions)}"
 
 
-def by_llvm(text):
-    """The lines that `opt -S` makes of a text, without what vfa drops."""
-    done = subprocess.run(["opt", "-S"], input=text.encode(), capture_output=True, check=True)
+def llvm_opt():
+    """The command of LLVM's opt, the newest that is on the path; None where there is none."""
+    found = [name for name in ["opt"] + [f"opt-{version}" for version in range(30, 13, -1)] if shutil.which(name)]
+    if not found:
+        return None
+    version = subprocess.run([found[0], "--version"], capture_output=True, text=True).stdout
+    # LLVM 14 reads `ptr` only when asked to.
+    return [found[0], "-S"] + (["-opaque-pointers"] if "LLVM version 14." in version else [])
+
+
+def by_llvm(opt, text):
+    """The lines that `opt -S` makes of a text, without what vfa drops; None where it refuses the text."""
+    done = subprocess.run(opt, input=text.encode(), capture_output=True)
+    if done.returncode:
+        return None
     lines = re.sub(r";.*", "", done.stdout.decode())
     lines = re.sub(r", !foo !\d+", "", lines)
     lines = re.sub(r"\b(tail|notail) call", "call", lines)
     return [line for line in lines.split("\n") if line.strip() and not re.match(r"declare|attributes|!|source_filename", line)]
 
 
-def check(program, seed):
+def check(opt, program, seed):
+    """What is to be looked at in the module of a seed; None where there is nothing."""
     text = module(seed)
     run = lambda given: subprocess.run([program, "opt"], input=given, capture_output=True)
     printed = run(text.encode())
@@ -225,22 +242,36 @@ def check(program, seed):
         return f"status {printed.returncode}, {printed.stderr.decode()}"
     if run(printed.stdout).stdout != printed.stdout:
         return "printing again changes it"
-    pairs = zip(by_llvm(text), by_llvm(printed.stdout.decode()))
+    before, after = by_llvm(opt, text), by_llvm(opt, printed.stdout.decode())
+    if before is None or after is None:
+        return f"{opt[0]} refuses the {'module' if before is None else 'printed text'}"
+    pairs = itertools.zip_longest(before, after, fillvalue="")
     unlike = [pair for pair in pairs if pair[0] != pair[1]]
     return f"{unlike[0][0]!r} became {unlike[0][1]!r}" if unlike else None
 
 
 def main():
-    program = sys.argv[1]
-    first, last = (int(word) for word in (sys.argv[2:4] + ["1", "20"][len(sys.argv) - 2:]))
+    words = sys.argv[1:]
+    if not 1 <= len(words) <= 3 or not all(word.isdecimal() for word in words[1:]):
+        print(__doc__)
+        return 2
+    if not shutil.which(words[0]):
+        print(f"{words[0]} is no program")
+        return 2
+    opt = llvm_opt()
+    if not opt:
+        print("LLVM's opt is missing: on Debian `apt-get install -y llvm` brings it")
+        return 2
+    first, last = (int(word) for word in words[1:] + ["1", "20"][len(words) - 1:])
     found = 0
     for seed in range(first, last + 1):
-        fault = check(program, seed)
+        fault = check(opt, words[0], seed)
         if fault:
             found += 1
             print(f"module {seed}: {fault}")
     print(f"{last - first + 1} modules of {FUNCTIONS} functions, {found} with something to look at")
+    return 1 if found else 0
 
 
 if __name__ == "__main__":
-    main()
+    sys.exit(main())

@@ -74,7 +74,7 @@ def measure(name, command, module):
 
 def llvm_opt():
     """The command of LLVM's opt; None where there is none."""
-    for name in ["opt"] + [f"opt-{version}" for version in range(19, 13, -1)]:
+    for name in ["opt"] + [f"opt-{version}" for version in range(30, 13, -1)]:
         if shutil.which(name):
             version = subprocess.run([name, "--version"], capture_output=True, text=True).stdout
             # LLVM 14 reads `ptr` only when asked to.

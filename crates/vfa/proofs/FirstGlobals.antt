@@ -29,18 +29,18 @@ first_later : (t : Token) (rest : List Token) → (t.kind ≡ TokenKind.Global �
 unfolding first_by
 first_later t rest unlike = other_kind t.kind t (first_global rest) unlike
 
-pub behind : {A : Type 0} (xs : List A) (i : ℕ) (x : A) → i < length xs → x ≡ get_or xs i x → drop i xs ≡ x ∷ drop (i + 1) xs
-behind xs i x lt is =
+pub drop_at : {A : Type 0} (xs : List A) (i : ℕ) (x : A) → i < length xs → x ≡ get_or xs i x → drop i xs ≡ x ∷ drop (i + 1) xs
+drop_at xs i x lt is =
     let k : drop (suc i) xs ≡ drop (i + 1) xs = ap (λ n. drop n xs) (sym (add-one i)) in
     drop-cons xs i x lt ∙ ap (λ y. y ∷ drop (suc i) xs) (sym is) ∙ ap (λ r. x ∷ r) k
 
 pub found : (all : List Token) (i : ℕ) (t : Token) → i < length all → t ≡ get_or all i t → first_global (drop i all) ≡ first_global all →
     t.kind ≡ TokenKind.Global → Some t ≡ first_global all
-found all i t lt is so_far kind = sym (first_here t (drop (i + 1) all) kind) ∙ ap first_global (sym (behind all i t lt is)) ∙ so_far
+found all i t lt is so_far kind = sym (first_here t (drop (i + 1) all) kind) ∙ ap first_global (sym (drop_at all i t lt is)) ∙ so_far
 
 pub passed : (all : List Token) (i : ℕ) (t : Token) → i < length all → t ≡ get_or all i t → first_global (drop i all) ≡ first_global all →
     (t.kind ≡ TokenKind.Global → ⊥) → first_global (drop (i + 1) all) ≡ first_global all
-passed all i t lt is so_far kind = sym (first_later t (drop (i + 1) all) kind) ∙ ap first_global (sym (behind all i t lt is)) ∙ so_far
+passed all i t lt is so_far kind = sym (first_later t (drop (i + 1) all) kind) ∙ ap first_global (sym (drop_at all i t lt is)) ∙ so_far
 
 pub none : (all : List Token) (i : ℕ) → length all ≤ i → first_global (drop i all) ≡ first_global all → ◌≡◌ {A = Option Token} None (first_global all)
 none all i past so_far = sym (ap first_global (drop_all i all past)) ∙ so_far

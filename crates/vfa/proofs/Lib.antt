@@ -19,5 +19,7 @@ mod FoldedLines
 mod FoldRefines
 mod FirstGlobals
 mod NameSets
-mod PartLists
+mod PieceLists
 mod FoldPrintable
+mod EachInput
+mod SourceInputs

@@ -5,7 +5,7 @@ use Rattle.std.proofs.lemmas.List.{drop_all}
 use Rattle.indexmap.specs.IndexSet.{insert_key}
 use Rattle.vfa_ir.specs.Words.{is_among}
 use Rattle.vfa_ir.specs.DefinedNames.{first_repeated}
-use Rattle.vfa.proofs.FirstGlobals.{behind}
+use Rattle.vfa.proofs.FirstGlobals.{drop_at}
 
 -- ---- keys
 
@@ -54,7 +54,7 @@ repeated_alike a b (n ∷ names) alike =
 named_step : (seen names : List (List ℕ)) (i : ℕ) (n : List ℕ) → i < length names → n ≡ get_or names i n →
     first_repeated seen (drop i names) ≡ first_repeated [] names →
     (if is_among n seen then Some n else first_repeated (n ∷ seen) (drop (i + 1) names)) ≡ first_repeated [] names
-named_step seen names i n lt is so_far = sym (ap (first_repeated seen) (behind names i n lt is)) ∙ so_far
+named_step seen names i n lt is so_far = sym (ap (first_repeated seen) (drop_at names i n lt is)) ∙ so_far
 
 -- the name at i is known or goes in
 pub repeats : (seen names : List (List ℕ)) (i : ℕ) (n : List ℕ) → i < length names → n ≡ get_or names i n →

@@ -137,7 +137,7 @@ block_without_unused block = record block { insts = used_lines block.term block.
 abbrev pub without_unused : Function → Function
 without_unused f = record f { blocks = map block_without_unused f.blocks }
 
--- a line's name in front of names
+-- a line's name before names
 abbrev pub with_name : Option ValueId → List ℕ → List ℕ
 with_name None names = names
 with_name (Some v) names = v.0 ∷ names

@@ -1,3 +1,4 @@
+pub mod Command
 pub mod First
 pub mod Fold
 pub mod KnownNames
@@ -12,4 +13,3 @@ pub mod Refusals
 pub mod Run
 pub mod Status
 pub mod Stops
-pub mod Words

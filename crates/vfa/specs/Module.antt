@@ -1,4 +1,4 @@
--- The text of a module: what stands in place of each of its parts, and the notes on the functions that stay as they are.
+-- The text of a module: what a command writes for each of its pieces, and the notes on the functions that stay as they are.
 use Rattle.std.specs.Prelude.{◌≡◌, ◌⊎◌, ⊤, ℕ, ◌+◌, ◌-◌, List, [], ◌∷◌, ◌++◌, flat_map, filter_map, Option, Some, None, Ok, codes, decimal, slice_range}
 use Rattle.vfa_ir.specs.declared.functions.Function.{Function}
 use Rattle.vfa_ir.specs.declared.functions.Lines.{Lines}
@@ -14,42 +14,45 @@ use Rattle.vfa_module.specs.declared.items.Item.{Item}
 use Rattle.vfa_module.specs.Split.{split_of}
 use Rattle.vfa_print.specs.Layout.{name_text, line_feed}
 use Rattle.vfa_print.specs.Trees.{function_text}
+use Rattle.vfa.specs.declared.command.Command.{Command}
+use Rattle.vfa.specs.declared.command.Job.{Job}
 use Rattle.vfa.specs.First.{IsFirst}
 use Rattle.vfa.specs.Fold.{folded}
 
--- A part of a module: bytes between defines, a define that reads as a function within the limits, or a define that
+-- A piece of a module: bytes between defines, a define that reads as a function within the limits, or a define that
 -- stays as it is, on which line it begins, and why.
-pub data Part : Type 0 where
-  copied : List ℕ → Part
-  accepted : Function → Part
-  carried : List ℕ → ℕ → Outside → Part
+pub data Piece : Type 0 where
+  copied : List ℕ → Piece
+  accepted : Function → Piece
+  carried : List ℕ → ℕ → Outside → Piece
 
-abbrev pub IsPart : List ℕ → Item → Part → Type 0
-IsPart input (Item.Lines start end) (copied text) = text ≡ slice_range input start end
-IsPart input (Item.Define start end line) (accepted f) =
+abbrev pub IsPiece : List ℕ → Item → Piece → Type 0
+IsPiece input (Item.Lines start end) (copied text) = text ≡ slice_range input start end
+IsPiece input (Item.Define start end line) (accepted f) =
     let text = slice_range input start end in (lines : Lines) × IsAccepted text (tokens_of text) f lines
-IsPart input (Item.Define start end line) (carried text first reason) =
+IsPiece input (Item.Define start end line) (carried text first reason) =
     (text ≡ slice_range input start end) × (first ≡ line) × IsReason text (tokens_of text) reason
-IsPart input _ _ = ⊥
+IsPiece input _ _ = ⊥
 
-abbrev pub AreParts : List ℕ → List Item → List Part → Type 0
-AreParts input [] [] = ⊤
-AreParts input (item ∷ items) (part ∷ parts) = IsPart input item part × AreParts input items parts
-AreParts input _ _ = ⊥
+abbrev pub ArePieces : List ℕ → List Item → List Piece → Type 0
+ArePieces input [] [] = ⊤
+ArePieces input (item ∷ items) (piece ∷ pieces) = IsPiece input item piece × ArePieces input items pieces
+ArePieces input _ _ = ⊥
 
--- What stands in place of a part. A function of one block of bitwise operations has its constants folded.
+-- What `opt` writes for a function: one of one block of bitwise operations has its constants folded.
 abbrev pub IsPrinted : Function → List ℕ → Type 0
 IsPrinted f text = (IsFirst f × (text ≡ function_text (folded f))) ⊎ ((IsFirst f → ⊥) × (text ≡ function_text f))
 
-abbrev pub IsPartText : Part → List ℕ → Type 0
-IsPartText (copied bytes) text = text ≡ bytes
-IsPartText (accepted f) text = IsPrinted f text
-IsPartText (carried bytes _ _) text = text ≡ bytes
+-- what a job writes for a piece
+abbrev pub IsPieceText : Job → Piece → List ℕ → Type 0
+IsPieceText Job.Opt (copied bytes) text = text ≡ bytes
+IsPieceText Job.Opt (accepted f) text = IsPrinted f text
+IsPieceText Job.Opt (carried bytes _ _) text = text ≡ bytes
 
-abbrev pub AreTexts : List Part → List ℕ → Type 0
-AreTexts [] text = text ≡ []
-AreTexts (part ∷ parts) text =
-    (front : List ℕ) × (rest : List ℕ) × IsPartText part front × AreTexts parts rest × (text ≡ front ++ rest)
+abbrev pub AreTexts : Command → List Piece → List ℕ → Type 0
+AreTexts command [] text = text ≡ []
+AreTexts command (piece ∷ pieces) text =
+    (first : List ℕ) × (rest : List ℕ) × IsPieceText command.job piece first × AreTexts command pieces rest × (text ≡ first ++ rest)
 
 -- Notes
 
@@ -83,48 +86,52 @@ reason_text first (Outside.Phi block) = codes "Phi in " ++ local_text block
 reason_text first (Outside.Undefined name block) = codes "Undefined " ++ (local_text name ++ (codes " at " ++ local_text block))
 reason_text first Outside.Memory = []
 
+-- the note on a define of this name
+abbrev pub named_note : List ℕ → ℕ → Outside → List ℕ
+named_note name first reason =
+    codes "note: @" ++ (name_text name ++ (codes " carried: " ++ (reason_text first reason ++ line_feed)))
+
 abbrev pub note_text : List ℕ → ℕ → Outside → List ℕ
-note_text text first reason =
-    codes "note: @" ++ (name_text (define_name text) ++ (codes " carried: " ++ (reason_text first reason ++ line_feed)))
+note_text text = named_note (define_name text)
 
-abbrev pub part_note : Part → List ℕ
-part_note (copied _) = []
-part_note (accepted _) = []
-part_note (carried text first reason) = note_text text first reason
+abbrev pub piece_note : Piece → List ℕ
+piece_note (copied _) = []
+piece_note (accepted _) = []
+piece_note (carried text first reason) = note_text text first reason
 
-abbrev pub notes_of : List Part → List ℕ
-notes_of = flat_map part_note
+abbrev pub notes_of : List Piece → List ℕ
+notes_of = flat_map piece_note
 
 -- Modules
 
-abbrev pub part_name : Part → Option (List ℕ)
-part_name (copied _) = None
-part_name (accepted f) = Some f.name
-part_name (carried _ _ _) = None
+abbrev pub piece_name : Piece → Option (List ℕ)
+piece_name (copied _) = None
+piece_name (accepted f) = Some f.name
+piece_name (carried _ _ _) = None
 
-abbrev pub function_names : List Part → List (List ℕ)
-function_names = filter_map part_name
+abbrev pub function_names : List Piece → List (List ℕ)
+function_names = filter_map piece_name
 
--- the parts of a text that can be split
-pub record Splits (input : List ℕ) (parts : List Part) : Type 0 where
+-- the pieces of a text that can be split
+pub record Splits (input : List ℕ) (pieces : List Piece) : Type 0 where
   pub items : List Item
   pub split : split_of input ≡ Ok items
-  pub are : AreParts input items parts
+  pub are : ArePieces input items pieces
 
--- a module: no two of its accepted functions have one name
-pub record IsModule (input : List ℕ) (parts : List Part) : Type 0 where
-  pub splits : Splits input parts
-  pub distinct : first_repeated [] (function_names parts) ≡ None
+-- a module for the command: no two of its accepted functions have one name
+pub record IsModule (command : Command) (input : List ℕ) (pieces : List Piece) : Type 0 where
+  pub splits : Splits input pieces
+  pub distinct : first_repeated [] (function_names pieces) ≡ None
 
--- the text of a module, and the notes on it
-pub record IsModuleText (input text notes : List ℕ) : Type 0 where
-  pub parts : List Part
-  pub «module» : IsModule input parts
-  pub texts : AreTexts parts text
-  pub notes_are : notes ≡ notes_of parts
+-- the command's text of a module, and the notes on it
+pub record IsModuleText (command : Command) (input text notes : List ℕ) : Type 0 where
+  pub pieces : List Piece
+  pub «module» : IsModule command input pieces
+  pub texts : AreTexts command pieces text
+  pub notes_are : notes ≡ notes_of pieces
 
 -- the first function name that an accepted function has a second time
 pub record RepeatsName (input name : List ℕ) : Type 0 where
-  pub parts : List Part
-  pub splits : Splits input parts
-  pub repeated : first_repeated [] (function_names parts) ≡ Some name
+  pub pieces : List Piece
+  pub splits : Splits input pieces
+  pub repeated : first_repeated [] (function_names pieces) ≡ Some name

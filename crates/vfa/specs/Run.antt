@@ -1,13 +1,14 @@
 -- What a run of the program writes, and when each status comes.
-use Rattle.std.specs.Prelude.{ℕ, ◌≤◌, ◌⊎◌, Option, List, ◌++◌, length, codes, All}
-use Rattle.std.specs.Io.KnownBytes.{Appends, Keeps}
-use Rattle.vfa_io.specs.Count.{Rose}
+use Rattle.std.specs.Prelude.{ℕ, ◌≤◌, ◌⊎◌, List, ◌++◌, length, codes, All}
 use Rattle.vfa_io.specs.Bytes.{GotPrefix}
+use Rattle.vfa_io.specs.States.{SourceState, SinkState, Change, SinkFailed, Got, GotNothing}
 use Rattle.vfa_print.specs.Layout.{line_feed}
+use Rattle.vfa.specs.declared.command.Command.{Command}
 use Rattle.vfa.specs.declared.modules.Refused.{Refused}
-use Rattle.vfa.specs.Module.{Part, IsModule, IsModuleText}
+use Rattle.vfa.specs.Module.{Piece, IsModule, IsModuleText}
 use Rattle.vfa.specs.Parts.{IsRefined}
-use Rattle.vfa.specs.Refusals.{most, IsRefusal, refusal_text}
+use Rattle.vfa.specs.Refusals.{most, refusal_text}
+use Rattle.vfa.specs.Stops.{IsRefusedFor}
 
 -- ---- messages
 
@@ -19,40 +20,49 @@ usage_line =
 abbrev pub fault_read : List ℕ
 fault_read = codes "fault: read" ++ line_feed
 
--- the sink got the message, or a front of it where its count of faults rose
-abbrev pub Reports : Option (List ℕ) → Option (List ℕ) → ℕ → ℕ → List ℕ → Type 0
-Reports before now faults_before faults_now message =
-    Appends before now message ⊎ (Rose faults_before faults_now × GotPrefix before now message)
+-- the sink got the message, or a prefix of it where its count of faults rose
+abbrev pub Reports : Change SinkState → List ℕ → Type 0
+Reports err message = Got err message ⊎ (SinkFailed err × GotPrefix err.before.written err.now.written message)
 
 -- ---- answers
 
--- The text of the input's module and the notes on it. What stands in place of an accepted function reads as a function
--- which refines it.
-pub record IsAnswer (input text notes : List ℕ) : Type 0 where
+-- The command's text of the input's module and the notes on it. What `opt` writes for an accepted function reads as a
+-- function which refines it.
+pub record IsAnswer (command : Command) (input text notes : List ℕ) : Type 0 where
   pub within : length input ≤ most
-  pub is : IsModuleText input text notes
-  pub refined : (parts : List Part) → IsModule input parts → All IsRefined parts
+  pub is : IsModuleText command input text notes
+  pub refined : (pieces : List Piece) → IsModule command input pieces → All (IsRefined command.job) pieces
 
--- ---- sinks, by the bytes before, the bytes now, and the counts of faults
+-- ---- ends
 
-pub record Wrote (out_before out_now err_before err_now : Option (List ℕ)) (text notes : List ℕ) : Type 0 where
-  pub text_is : Appends out_before out_now text
-  pub notes_are : Appends err_before err_now notes
+-- out got the answer's text, and err the notes
+pub record IsDone (command : Command) (input : List ℕ) (out err : Change SinkState) : Type 0 where
+  pub text : List ℕ
+  pub notes : List ℕ
+  pub answer : IsAnswer command input text notes
+  pub text_got : Got out text
+  pub notes_got : Got err notes
 
--- either out's count rose, and out got a front of the text and err nothing; or err's count rose, and out got the text
--- and err a front of the notes
-pub record OutFailed (before now : Option (List ℕ)) (faults_before faults_now : ℕ) (err_before err_now : Option (List ℕ)) (text : List ℕ) : Type 0 where
-  pub rose : Rose faults_before faults_now
-  pub front : GotPrefix before now text
-  pub silent : Keeps err_before err_now
-
-pub record ErrFailed (out_before out_now before now : Option (List ℕ)) (faults_before faults_now : ℕ) (text notes : List ℕ) : Type 0 where
-  pub rose : Rose faults_before faults_now
-  pub whole : Appends out_before out_now text
-  pub front : GotPrefix before now notes
-
--- the input is refused for a reason that is reported
-pub record IsRefused (input : List ℕ) (before now : Option (List ℕ)) (faults_before faults_now : ℕ) : Type 0 where
+-- the input is refused for a reason that is reported, and this was read of it
+pub record IsRefused (command : Command) (input : List ℕ) (source : Change SourceState) (err : Change SinkState) : Type 0 where
   pub reason : Refused
-  pub holds : IsRefusal input reason
-  pub says : Reports before now faults_before faults_now (refusal_text reason)
+  pub refused : IsRefusedFor command input source reason
+  pub says : Reports err (refusal_text reason)
+
+-- out's count rose while the text was written, and out got a prefix of it and err nothing
+pub record StoppedInText (out err : Change SinkState) (text : List ℕ) : Type 0 where
+  pub failed : SinkFailed out
+  pub got : GotPrefix out.before.written out.now.written text
+  pub silent : GotNothing err
+
+-- err's count rose while the notes were written, and out got all of the text and err a prefix of the notes
+pub record StoppedInNotes (out err : Change SinkState) (text notes : List ℕ) : Type 0 where
+  pub failed : SinkFailed err
+  pub whole : Got out text
+  pub got : GotPrefix err.before.written err.now.written notes
+
+pub record IsWriteFault (command : Command) (input : List ℕ) (out err : Change SinkState) : Type 0 where
+  pub text : List ℕ
+  pub notes : List ℕ
+  pub answer : IsAnswer command input text notes
+  pub stopped : StoppedInText out err text ⊎ StoppedInNotes out err text notes

@@ -1,14 +1,15 @@
 //! An optimiser for the integer part of LLVM's textual IR.
 #![tactic(auto)]
 
+mod command;
 mod fold;
+mod laws;
 pub mod meaning;
 mod modules;
 mod run;
 mod status;
 #[cfg(test)]
 mod tests;
-mod words;
 
 use run::vfa_run;
 use status::Status;
@@ -32,7 +33,7 @@ fn main(rt: HostRuntime) -> ExitCode {
     ExitCode::from(status.exit_number())
 }
 
-// The words behind the name of the program.
+// The words after the name of the program.
 fn words_of(rt: &HostRuntime) -> io::Result<Vec<String>> {
     let mut words = Vec::new(rt.alloc());
     for word in env::args(rt)?.skip(1) {

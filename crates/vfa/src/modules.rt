@@ -6,9 +6,10 @@ ghost use Rattle.std.specs.List.{AllByRecursion};
 ghost use Rattle.vfa_ir.specs.DefinedNames.{first_repeated};
 ghost use Rattle.vfa_module.specs.Split.{split_of};
 ghost use Rattle.vfa_module.specs.declared.items.Item.{Item};
-ghost use Rattle.vfa.specs.Module.{Part as Piece, IsModule, IsModuleText};
+ghost use Rattle.vfa.specs.Module.{Piece, IsModule, IsModuleText};
 ghost use Rattle.vfa.specs.Parts.{IsPlaced, IsRefined};
 ghost use Rattle.vfa.specs.Refusals.{IsRefusal, RefusedFor};
+ghost use Rattle.vfa.specs.declared.command.Command.{Command};
 ghost use Rattle.vfa.specs.declared.modules.Refused.{Refused};
 ghost use Rattle.vfa.specs.declared.modules.Refused.TheVariants.{Memory};
 
@@ -20,6 +21,7 @@ mod parts;
 mod printed;
 mod texts;
 
+use crate::command::Command;
 use crate::modules::names::repeated_name;
 pub use crate::modules::notes::refusal_message;
 use crate::modules::texts::texts_of;
@@ -52,7 +54,7 @@ pub enum Refused {
     /// Two functions of the profile have this name.
     #[error("a function is defined twice")]
     DuplicateFunction(Name),
-    /// Out of memory.
+    /// Memory ran out.
     #[error("out of memory")]
     Memory,
 }
@@ -62,8 +64,8 @@ fn items_of(alloc: Global, bytes: &[u8]) -> Result<Vec<Item>, Refused>
     requires { length bytes.now ≤ 16777216 }
     ensures items { IfOk result (λ items. split_of bytes.now ≡ Ok items.items) }
     ensures places { IfOk result (λ items. AllByRecursion (IsPlaced bytes.now) items.items) }
-    ensures refused { IfErr result (λ e. (e ≡ Memory) ⊎ IsRefusal bytes.now e) }
-    ensures refuses { IfErr result (λ e. (e ≡ Memory) ⊎ ((r : Refused) → IsRefusal bytes.now r → e ≡ r)) }
+    ensures refused { (command : Command) → IfErr result (λ e. (e ≡ Memory) ⊎ IsRefusal command bytes.now e) }
+    ensures refuses { (command : Command) → IfErr result (λ e. (e ≡ Memory) ⊎ ((r : Refused) → IsRefusal command bytes.now r → e ≡ r)) }
     ensures answers { (items : List Item) → split_of bytes.now ≡ Ok items → IfErr result (λ e. e ≡ Memory) }
 {
     match split(alloc, bytes) {
@@ -87,21 +89,21 @@ fn distinct(alloc: Global, names: &[Name]) -> Result<(), Refused>
     Ok(())
 }
 
-/// The text of a module and the notes on it, or why there is none.
+/// The command's text of a module and the notes on it, or why the input is refused.
 ///
-/// Each define that reads as a function within the limits is printed, with its constants folded where it is one block of
-/// bitwise operations. Every other define stays as it is, with a note, and so do all bytes between defines.
-pub fn module_out(alloc: Global, bytes: &[u8]) -> Result<ModuleText, Refused>
+/// `opt`: each define that reads as a function within the limits is printed, with its constants folded where it is one
+/// block of bitwise operations. Every other define stays as it is, with a note, and so do all bytes between defines.
+pub fn module_out(alloc: Global, command: Command, bytes: &[u8]) -> Result<ModuleText, Refused>
     requires { length bytes.now ≤ 2 ^ 24 }
-    ensures text { IfOk result (λ text. IsModuleText bytes.now text.out.items text.notes.items) }
-    ensures refined { OnOk result ((parts : List Piece) → IsModule bytes.now parts → All IsRefined parts) }
-    ensures refused { IfErr result (λ e. (e ≡ Memory) ⊎ IsRefusal bytes.now e) }
-    ensures answers { (parts : List Piece) → IsModule bytes.now parts → IfErr result (λ e. e ≡ Memory) }
-    ensures refuses { (reason : Refused) → IsRefusal bytes.now reason →
+    ensures text { IfOk result (λ text. IsModuleText command bytes.now text.out.items text.notes.items) }
+    ensures refined { OnOk result ((pieces : List Piece) → IsModule command bytes.now pieces → All (IsRefined command.job) pieces) }
+    ensures refused { IfErr result (λ e. (e ≡ Memory) ⊎ IsRefusal command bytes.now e) }
+    ensures answers { (pieces : List Piece) → IsModule command bytes.now pieces → IfErr result (λ e. e ≡ Memory) }
+    ensures refuses { (reason : Refused) → IsRefusal command bytes.now reason →
         OnOk result ⊥ × IfErr result (λ e. (e ≡ reason) ⊎ (e ≡ Memory)) }
 {
     let items = items_of(alloc, bytes)?;
-    let named = match texts_of(alloc, bytes, &items) {
+    let named = match texts_of(alloc, command, bytes, &items) {
         Ok(named) => named,
         Err(_) => return Err(Refused::Memory),
     };

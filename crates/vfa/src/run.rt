@@ -1,19 +1,19 @@
 //! The run of the program, from words and a source to a status.
 
-ghost use Rattle.std.specs.Prelude.{◌≡◌, ℕ, ◌≤◌, ◌⊎◌, ◌↔◌, List, [], map, Some, IfOk, IfErr, IfSome, OnOk, OnErr, string_bytes, length};
-ghost use Rattle.std.specs.Io.KnownBytes.{Appends, Keeps};
-ghost use Rattle.vfa_io.specs.Count.{Rose};
+ghost use Rattle.std.specs.Prelude.{◌≡◌, ℕ, ◌≤◌, ◌⊎◌, ◌↔◌, List, IfOk, IfErr, OnOk, OnErr, length};
+ghost use Rattle.vfa_io.specs.States.{change, SourceFailed, GaveAtMost, GaveMore, SinkFailed, Got, GotNothing};
+ghost use Rattle.vfa.specs.declared.command.Command.{Command};
 ghost use Rattle.vfa.specs.declared.modules.Refused.{Refused};
+ghost use Rattle.vfa.specs.declared.modules.Refused.TheVariants.{TooLong};
 ghost use Rattle.vfa.specs.declared.run.Stop.TheVariants.{Memory as OutOfMemory};
-ghost use Rattle.vfa.specs.Module.{Part, IsModule};
+ghost use Rattle.vfa.specs.Command.{texts, AreCommand, Asks, IsInputOf, IsReadBy};
 ghost use Rattle.vfa.specs.Refusals.{most, IsRefusal, refusal_text};
-ghost use Rattle.vfa.specs.Run.{usage_line, fault_read, Reports, IsAnswer, IsRefused, Wrote, OutFailed, ErrFailed};
-ghost use Rattle.vfa.specs.Stops.{IsStop, IsStopOf, IsRead};
-ghost use Rattle.vfa.specs.Words.{AreCommand};
+ghost use Rattle.vfa.specs.Run.{usage_line, fault_read, Reports, IsAnswer, IsDone, IsRefused, StoppedInText, StoppedInNotes, IsWriteFault};
+ghost use Rattle.vfa.specs.Stops.{IsInputStop, IsStop, IsStopOf, IsReadStop};
 
+use crate::command::{Command, command_of};
 use crate::modules::{ModuleText, Refused, module_out, refusal_message};
 use crate::status::Status;
-use crate::words::is_command;
 use std::alloc::Global;
 use vfa_io::{Failed, ReadFault, Sink, Source, read_all, write_all};
 
@@ -47,32 +47,40 @@ fn stop_of(alloc: Global, refused: &Refused) -> Stop
     }
 }
 
-// The text of the input's module, and the notes on it.
-fn answer(alloc: Global, input: &[u8]) -> Result<ModuleText, Stop>
+// The command's text of the input's module, and the notes on it.
+fn answer(alloc: Global, command: Command, input: &[u8]) -> Result<ModuleText, Stop>
     requires { length input.now ≤ most }
-    ensures answer { IfOk result (λ text. IsAnswer input.now text.out.items text.notes.items) }
-    ensures stop { IfErr result (IsStop input.now) }
-    ensures read { IfErr result (λ stop. IsRead stop → ⊥) }
-    ensures answers { (parts : List Part) → IsModule input.now parts → IfErr result (λ stop. stop ≡ OutOfMemory) }
-    ensures refuses { (reason : Refused) → IsRefusal input.now reason → OnOk result ⊥ × IfErr result (IsStopOf reason) }
+    ensures answer { IfOk result (λ text. IsAnswer command input.now text.out.items text.notes.items) }
+    ensures stop { IfErr result (IsInputStop command input.now) }
+    ensures read { IfErr result (λ stop. IsReadStop stop → ⊥) }
+    ensures refuses { (reason : Refused) → IsRefusal command input.now reason → OnOk result ⊥ × IfErr result (IsStopOf reason) }
 {
-    match module_out(alloc, input) {
+    match module_out(alloc, command, input) {
         Ok(text) => Ok(text),
         Err(refused) => Err(stop_of(alloc, &refused)),
     }
 }
 
 // The text and the notes for all that the source has left.
-fn answer_source<S: Source>(alloc: Global, source: &mut S) -> Result<ModuleText, Stop>
-    ensures answer { IfOk result (λ text. IfSome (S.left source.old) (λ input. IsAnswer input text.out.items text.notes.items)) }
-    ensures end { OnOk result (IfSome (S.left source.old) (λ _. S.left source.new ≡ Some [])) }
-    ensures read { IfErr result (λ stop. IsRead stop → Rose (S.faults source.old) (S.faults source.new)) }
-    ensures stop { IfErr result (λ stop. IfSome (S.left source.old) (λ input. IsStop input stop)) }
-    ensures answers { ¬ (Rose (S.faults source.old) (S.faults source.new)) → IfSome (S.left source.old) (λ input.
-        (parts : List Part) → IsModule input parts → length input ≤ most → IfErr result (λ stop. stop ≡ OutOfMemory)) }
-    ensures refuses { ¬ (Rose (S.faults source.old) (S.faults source.new)) → IfSome (S.left source.old) (λ input.
-        (reason : Refused) → IsRefusal input reason → OnOk result ⊥ × IfErr result (IsStopOf reason)) }
-    ensures later { S.faults source.old ≤ S.faults source.new }
+fn answer_source<S: Source>(
+    alloc: Global,
+    command: Command,
+    source: &mut S,
+) -> Result<ModuleText, Stop>
+    ensures answer { (input : List ℕ) → IsInputOf command.job (S.state source.old) input →
+        IfOk result (λ text. IsAnswer command input text.out.items text.notes.items) }
+    ensures end { (input : List ℕ) → IsInputOf command.job (S.state source.old) input →
+        OnOk result (IsReadBy command.job (change S.state source.old source.new)) }
+    ensures read { IfErr result (λ stop. IsReadStop stop →
+        SourceFailed (change S.state source.old source.new) × GaveAtMost (change S.state source.old source.new) most) }
+    ensures stop { (input : List ℕ) → IsInputOf command.job (S.state source.old) input →
+        IfErr result (IsStop command input (change S.state source.old source.new)) }
+    ensures refuses { (input : List ℕ) → IsInputOf command.job (S.state source.old) input →
+        (SourceFailed (change S.state source.old source.new) → ⊥) →
+        (reason : Refused) → IsRefusal command input reason → OnOk result ⊥ × IfErr result (IsStopOf reason) }
+    ensures too_long { (input : List ℕ) → IsInputOf command.job (S.state source.old) input →
+        GaveMore (change S.state source.old source.new) most → OnOk result ⊥ × IfErr result (IsStopOf TooLong) }
+    ensures later { (S.state source.old).faults ≤ (S.state source.new).faults }
 {
     let input = match read_all(alloc, source, MOST) {
         Ok(input) => input,
@@ -80,98 +88,70 @@ fn answer_source<S: Source>(alloc: Global, source: &mut S) -> Result<ModuleText,
         Err(ReadFault::TooLong) => return Err(stop_of(alloc, &Refused::TooLong)),
         Err(ReadFault::Memory) => return Err(Stop::Memory),
     };
-    answer(alloc, &input)
+    answer(alloc, command, &input)
 }
 
 // Writes a message. A fault of the sink is let go: it changes no status.
 fn say<E: Sink>(err: &mut E, message: &[u8])
-    ensures message { Reports (E.written err.old) (E.written err.new) (E.faults err.old) (E.faults err.new) message.now }
-    ensures later { E.faults err.old ≤ E.faults err.new }
+    ensures message { Reports (change E.state err.old err.new) message.now }
+    ensures later { (E.state err.old).faults ≤ (E.state err.new).faults }
 {
     let _ = write_all(err, message);
 }
 
 // Writes the text to out, and then the notes to err.
 fn write_answer<O: Sink, E: Sink>(out: &mut O, err: &mut E, text: &ModuleText) -> Result<(), Failed>
-    ensures wrote { OnOk result (Wrote (O.written out.old) (O.written out.new) (E.written err.old) (E.written err.new) text.now.out.items text.now.notes.items) }
+    ensures text { OnOk result (Got (change O.state out.old out.new) text.now.out.items) }
+    ensures notes { OnOk result (Got (change E.state err.old err.new) text.now.notes.items) }
     ensures failed { OnErr result
-        (OutFailed (O.written out.old) (O.written out.new) (O.faults out.old) (O.faults out.new) (E.written err.old) (E.written err.new) text.now.out.items
-        ⊎ ErrFailed (O.written out.old) (O.written out.new) (E.written err.old) (E.written err.new) (E.faults err.old) (E.faults err.new) text.now.out.items text.now.notes.items) }
-    ensures later { (O.faults out.old ≤ O.faults out.new) × (E.faults err.old ≤ E.faults err.new) }
+        (StoppedInText (change O.state out.old out.new) (change E.state err.old err.new) text.now.out.items
+        ⊎ StoppedInNotes (change O.state out.old out.new) (change E.state err.old err.new) text.now.out.items text.now.notes.items) }
+    ensures later { ((O.state out.old).faults ≤ (O.state out.new).faults) × ((E.state err.old).faults ≤ (E.state err.new).faults) }
 {
     write_all(out, &text.out)?;
     write_all(err, &text.notes)
 }
 
-/// Runs a command: reads the words, then all of the source, and writes the answer to out and the notes, or a message, to
-/// err.
-///
-/// `opt` reads a module (`docs/LANGUAGE.md`) and writes it with the constants of its functions folded.
-pub fn vfa_run<R: AllocGlobal, S: Source, O: Sink, E: Sink>(
-    rt: &R,
-    words: &[String],
+// Runs a command.
+fn run_command<S: Source, O: Sink, E: Sink>(
+    alloc: Global,
+    command: Command,
     source: &mut S,
     out: &mut O,
     err: &mut E,
 ) -> Status
-    // Done: the source is read to its end, out has the text of the input's module, in which each function that is printed
-    // reads as one that refines the function that was read, and err has the notes.
-    ensures done { result ≡ Status.Done → IfSome (S.left source.old) (λ input.
-        (text : List ℕ) × (notes : List ℕ) × IsAnswer input text notes
-        × Wrote (O.written out.old) (O.written out.new) (E.written err.old) (E.written err.new) text notes) }
-    ensures done_reads_all { result ≡ Status.Done → IfSome (S.left source.old) (λ _. S.left source.new ≡ Some []) }
-
-    // Refused: the input is too long, or no module; out has nothing, and err has the message.
-    ensures refused { result ≡ Status.Refused → IfSome (S.left source.old) (λ input.
-        IsRefused input (E.written err.old) (E.written err.new) (E.faults err.old) (E.faults err.new)) }
-    ensures refused_writes_nothing { result ≡ Status.Refused → Keeps (O.written out.old) (O.written out.new) }
-
-    // Usage: exactly where the words are no command. Nothing is read, out has nothing, and err has the usage line.
-    ensures usage { result ≡ Status.Usage ↔ ¬ (AreCommand (map (λ word. string_bytes word) words.now)) }
-    ensures usage_says { result ≡ Status.Usage →
-        Reports (E.written err.old) (E.written err.new) (E.faults err.old) (E.faults err.new) usage_line }
-    ensures usage_reads_nothing { result ≡ Status.Usage → source.new ≡ source.old }
-    ensures usage_writes_nothing { result ≡ Status.Usage → Keeps (O.written out.old) (O.written out.new) }
-
-    // ReadFault: only where the source's count of faults rose. Out has nothing, and err has the message.
-    ensures read_fault { result ≡ Status.ReadFault → Rose (S.faults source.old) (S.faults source.new) }
-    ensures read_fault_says { result ≡ Status.ReadFault →
-        Reports (E.written err.old) (E.written err.new) (E.faults err.old) (E.faults err.new) fault_read }
-    ensures read_fault_writes_nothing { result ≡ Status.ReadFault → Keeps (O.written out.old) (O.written out.new) }
-
-    // WriteFault: either out's count of faults rose, and out has a front of the text and err nothing; or err's count rose
-    // while the notes were written, and out has the text and err a front of the notes.
+    ensures not_usage { result ≡ Status.Usage → ⊥ }
+    ensures done { (input : List ℕ) → IsInputOf command.job (S.state source.old) input → result ≡ Status.Done →
+        IsDone command input (change O.state out.old out.new) (change E.state err.old err.new) }
+    ensures done_reads { (input : List ℕ) → IsInputOf command.job (S.state source.old) input → result ≡ Status.Done →
+        IsReadBy command.job (change S.state source.old source.new) }
+    ensures refused { (input : List ℕ) → IsInputOf command.job (S.state source.old) input → result ≡ Status.Refused →
+        IsRefused command input (change S.state source.old source.new) (change E.state err.old err.new) }
+    ensures refused_writes_nothing { result ≡ Status.Refused → GotNothing (change O.state out.old out.new) }
+    ensures read_fault { result ≡ Status.ReadFault → SourceFailed (change S.state source.old source.new) }
+    ensures read_fault_within { result ≡ Status.ReadFault → GaveAtMost (change S.state source.old source.new) most }
+    ensures read_fault_says { result ≡ Status.ReadFault → Reports (change E.state err.old err.new) fault_read }
+    ensures read_fault_writes_nothing { result ≡ Status.ReadFault → GotNothing (change O.state out.old out.new) }
     ensures write_fault { result ≡ Status.WriteFault →
-        Rose (O.faults out.old) (O.faults out.new) ⊎ Rose (E.faults err.old) (E.faults err.new) }
-    ensures write_fault_writes { result ≡ Status.WriteFault → IfSome (S.left source.old) (λ input.
-        (text : List ℕ) × (notes : List ℕ) × IsAnswer input text notes
-        × (OutFailed (O.written out.old) (O.written out.new) (O.faults out.old) (O.faults out.new) (E.written err.old) (E.written err.new) text
-        ⊎ ErrFailed (O.written out.old) (O.written out.new) (E.written err.old) (E.written err.new) (E.faults err.old) (E.faults err.new) text notes)) }
-
-    // Memory comes at any time. Nothing is written then.
+        SinkFailed (change O.state out.old out.new) ⊎ SinkFailed (change E.state err.old err.new) }
+    ensures write_fault_writes { (input : List ℕ) → IsInputOf command.job (S.state source.old) input → result ≡ Status.WriteFault →
+        IsWriteFault command input (change O.state out.old out.new) (change E.state err.old err.new) }
     ensures memory { result ≡ Status.Memory →
-        Keeps (O.written out.old) (O.written out.new) × Keeps (E.written err.old) (E.written err.new) }
-
-    // The other directions: where no count rises, a module is done and what is none is refused.
-    ensures completes { AreCommand (map (λ word. string_bytes word) words.now) →
-        ¬ (Rose (S.faults source.old) (S.faults source.new)) → ¬ (Rose (O.faults out.old) (O.faults out.new)) →
-        ¬ (Rose (E.faults err.old) (E.faults err.new)) →
-        IfSome (S.left source.old) (λ input. (parts : List Part) → IsModule input parts → length input ≤ most →
-        (result ≡ Status.Done) ⊎ (result ≡ Status.Memory)) }
-    ensures refuses { AreCommand (map (λ word. string_bytes word) words.now) →
-        ¬ (Rose (S.faults source.old) (S.faults source.new)) →
-        IfSome (S.left source.old) (λ input. (reason : Refused) → IsRefusal input reason →
-        (result ≡ Status.Memory) ⊎ ((result ≡ Status.Refused)
-        × Reports (E.written err.old) (E.written err.new) (E.faults err.old) (E.faults err.new) (refusal_text reason))) }
-
-    // Counts never fall.
-    ensures later { (S.faults source.old ≤ S.faults source.new) × (O.faults out.old ≤ O.faults out.new) × (E.faults err.old ≤ E.faults err.new) }
+        GotNothing (change O.state out.old out.new) × GotNothing (change E.state err.old err.new) }
+    ensures completes { (input : List ℕ) → IsInputOf command.job (S.state source.old) input →
+        (SourceFailed (change S.state source.old source.new) → ⊥) → (SinkFailed (change O.state out.old out.new) → ⊥) →
+        (SinkFailed (change E.state err.old err.new) → ⊥) → ((reason : Refused) → IsRefusal command input reason → ⊥) →
+        (result ≡ Status.Done) ⊎ (result ≡ Status.Memory) }
+    ensures refuses { (input : List ℕ) → IsInputOf command.job (S.state source.old) input →
+        (SourceFailed (change S.state source.old source.new) → ⊥) → (reason : Refused) → IsRefusal command input reason →
+        (result ≡ Status.Memory) ⊎ ((result ≡ Status.Refused) × Reports (change E.state err.old err.new) (refusal_text reason)) }
+    ensures too_long { (input : List ℕ) → IsInputOf command.job (S.state source.old) input →
+        GaveMore (change S.state source.old source.new) most →
+        (result ≡ Status.Memory) ⊎ ((result ≡ Status.Refused) × Reports (change E.state err.old err.new) (refusal_text TooLong)) }
+    ensures later { ((S.state source.old).faults ≤ (S.state source.new).faults)
+        × ((O.state out.old).faults ≤ (O.state out.new).faults) × ((E.state err.old).faults ≤ (E.state err.new).faults) }
 {
-    if !is_command(words) {
-        say(err, USAGE);
-        return Status::Usage;
-    }
-    match answer_source(rt.alloc(), source) {
+    match answer_source(alloc, command, source) {
         Ok(text) => match write_answer(out, err, &text) {
             Ok(()) => Status::Done,
             Err(Failed) => Status::WriteFault,
@@ -186,4 +166,77 @@ pub fn vfa_run<R: AllocGlobal, S: Source, O: Sink, E: Sink>(
         }
         Err(Stop::Memory) => Status::Memory,
     }
+}
+
+/// Runs a command: reads the words, then all of the source, and writes the answer to out and the notes, or a message, to
+/// err.
+///
+/// `opt` reads a module (`docs/LANGUAGE.md`) and writes it with the constants of its functions folded.
+pub fn vfa_run<R: AllocGlobal, S: Source, O: Sink, E: Sink>(
+    rt: &R,
+    words: &[String],
+    source: &mut S,
+    out: &mut O,
+    err: &mut E,
+) -> Status
+    // Done: out has the command's text of the input's module, in which each function that is printed reads as one that
+    // refines the function that was read, and err has the notes. The input was read to its end.
+    ensures done { (command : Command) (input : List ℕ) → Asks (texts words.now) (S.state source.old) command input →
+        result ≡ Status.Done → IsDone command input (change O.state out.old out.new) (change E.state err.old err.new) }
+    ensures done_reads { (command : Command) (input : List ℕ) → Asks (texts words.now) (S.state source.old) command input →
+        result ≡ Status.Done → IsReadBy command.job (change S.state source.old source.new) }
+
+    // Refused: the input is too long, or no module. Out has nothing, and err has the message.
+    ensures refused { (command : Command) (input : List ℕ) → Asks (texts words.now) (S.state source.old) command input →
+        result ≡ Status.Refused →
+        IsRefused command input (change S.state source.old source.new) (change E.state err.old err.new) }
+    ensures refused_writes_nothing { result ≡ Status.Refused → GotNothing (change O.state out.old out.new) }
+
+    // Usage: exactly where the words ask for no command. Nothing is read, out has nothing, and err has the usage line.
+    ensures usage { result ≡ Status.Usage ↔ ((command : Command) → AreCommand (texts words.now) command → ⊥) }
+    ensures usage_says { result ≡ Status.Usage → Reports (change E.state err.old err.new) usage_line }
+    ensures usage_reads_nothing { result ≡ Status.Usage → source.new ≡ source.old }
+    ensures usage_writes_nothing { result ≡ Status.Usage → GotNothing (change O.state out.old out.new) }
+
+    // ReadFault: only where the source's count of faults rose, after at most as many bytes as are allowed. Out has
+    // nothing, and err has the message.
+    ensures read_fault { result ≡ Status.ReadFault → SourceFailed (change S.state source.old source.new) }
+    ensures read_fault_within { result ≡ Status.ReadFault → GaveAtMost (change S.state source.old source.new) most }
+    ensures read_fault_says { result ≡ Status.ReadFault → Reports (change E.state err.old err.new) fault_read }
+    ensures read_fault_writes_nothing { result ≡ Status.ReadFault → GotNothing (change O.state out.old out.new) }
+
+    // WriteFault: either out's count of faults rose, and out has a prefix of the text and err nothing; or err's count rose
+    // while the notes were written, and out has the text and err a prefix of the notes.
+    ensures write_fault { result ≡ Status.WriteFault →
+        SinkFailed (change O.state out.old out.new) ⊎ SinkFailed (change E.state err.old err.new) }
+    ensures write_fault_writes { (command : Command) (input : List ℕ) → Asks (texts words.now) (S.state source.old) command input →
+        result ≡ Status.WriteFault → IsWriteFault command input (change O.state out.old out.new) (change E.state err.old err.new) }
+
+    // Memory comes at any time. Nothing is written then.
+    ensures memory { result ≡ Status.Memory →
+        GotNothing (change O.state out.old out.new) × GotNothing (change E.state err.old err.new) }
+
+    // The other directions. Where no count rises and the input is not refused, all is done. Where the source's count does
+    // not rise, the input is refused for each reason that holds; and where it gave too many bytes, it is refused for that,
+    // whether its count rose or not.
+    ensures completes { (command : Command) (input : List ℕ) → Asks (texts words.now) (S.state source.old) command input →
+        (SourceFailed (change S.state source.old source.new) → ⊥) → (SinkFailed (change O.state out.old out.new) → ⊥) →
+        (SinkFailed (change E.state err.old err.new) → ⊥) → ((reason : Refused) → IsRefusal command input reason → ⊥) →
+        (result ≡ Status.Done) ⊎ (result ≡ Status.Memory) }
+    ensures refuses { (command : Command) (input : List ℕ) → Asks (texts words.now) (S.state source.old) command input →
+        (SourceFailed (change S.state source.old source.new) → ⊥) → (reason : Refused) → IsRefusal command input reason →
+        (result ≡ Status.Memory) ⊎ ((result ≡ Status.Refused) × Reports (change E.state err.old err.new) (refusal_text reason)) }
+    ensures too_long { (command : Command) (input : List ℕ) → Asks (texts words.now) (S.state source.old) command input →
+        GaveMore (change S.state source.old source.new) most →
+        (result ≡ Status.Memory) ⊎ ((result ≡ Status.Refused) × Reports (change E.state err.old err.new) (refusal_text TooLong)) }
+
+    // Counts never fall.
+    ensures later { ((S.state source.old).faults ≤ (S.state source.new).faults)
+        × ((O.state out.old).faults ≤ (O.state out.new).faults) × ((E.state err.old).faults ≤ (E.state err.new).faults) }
+{
+    let Some(command) = command_of(words) else {
+        say(err, USAGE);
+        return Status::Usage;
+    };
+    run_command(rt.alloc(), command, source, out, err)
 }

@@ -20,13 +20,13 @@ Appends-more (Some x) (Some y) None bytes rest n m e p q = absurd q
 Appends-more (Some x) (Some y) (Some z) bytes rest n m e p q =
     q ∙ ap (λ l. l ++ take m rest) p ∙ append_assoc x (take n bytes) (take m rest) ∙ ap (λ l. x ++ l) (ap (λ l. take n bytes ++ take m l) e ∙ sym (take-add n m bytes))
 
--- a front of the bytes was written, and then nothing more
-pub front_written : (a b c : Option (List ℕ)) (bytes : List ℕ) (n : ℕ) → Appends a b (take n bytes) → Keeps b c → GotPrefix a c bytes
-front_written a b c bytes n p q = (take n bytes, drop n bytes, sym (take-append-drop n bytes), Appends-kept a b c (take n bytes) p q)
+-- a prefix of the bytes was written, and then nothing more
+pub prefix_written : (a b c : Option (List ℕ)) (bytes : List ℕ) (n : ℕ) → Appends a b (take n bytes) → Keeps b c → GotPrefix a c bytes
+prefix_written a b c bytes n p q = (take n bytes, drop n bytes, sym (take-append-drop n bytes), Appends-kept a b c (take n bytes) p q)
 
--- the front of what is left went to the buffer, and the rest is left
-pub front_given : (n at : ℕ) (bytes front rest : List ℕ) → front ≡ take n (drop at bytes) → length front ≡ n → drop at bytes ≡ take n (front ++ rest) ++ drop (at + n) bytes
-front_given n at bytes front rest is_front is_length =
+-- a prefix of what is left went to the buffer, and the rest is left
+pub prefix_given : (n at : ℕ) (bytes front rest : List ℕ) → front ≡ take n (drop at bytes) → length front ≡ n → drop at bytes ≡ take n (front ++ rest) ++ drop (at + n) bytes
+prefix_given n at bytes front rest is_front is_length =
     let taken : take n (front ++ rest) ≡ front = subst (λ (k : ℕ). take k (front ++ rest) ≡ front) is_length (take-append_seam front rest) in
     sym (take-append-drop n (drop at bytes))
     ∙ ap (λ l. l ++ drop n (drop at bytes)) (sym is_front ∙ sym taken)

@@ -7,6 +7,6 @@ use Rattle.std.specs.Io.KnownBytes.{Consumes, Appends}
 abbrev pub Gave : Option (List ℕ) → Option (List ℕ) → (List ℕ → Type 0) → Type 0
 Gave before now P = (given : List ℕ) × Consumes before now given × P given
 
--- the sink got a front of these bytes in between
+-- the sink got a prefix of these bytes in between
 abbrev pub GotPrefix : Option (List ℕ) → Option (List ℕ) → List ℕ → Type 0
-GotPrefix before now bytes = (front : List ℕ) × (rest : List ℕ) × (bytes ≡ front ++ rest) × Appends before now front
+GotPrefix before now bytes = («prefix» : List ℕ) × (rest : List ℕ) × (bytes ≡ «prefix» ++ rest) × Appends before now «prefix»

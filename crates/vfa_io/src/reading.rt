@@ -3,6 +3,7 @@ ghost use Rattle.std.specs.Prelude.{◌≡◌, ◌+◌, ◌-◌, ◌^◌, ◌<�
 ghost use Rattle.std.specs.Io.KnownBytes.{Consumes, Keeps};
 ghost use Rattle.vfa_io.specs.Count.{Rose, HasCause};
 ghost use Rattle.vfa_io.specs.Bytes.{Gave};
+ghost use Rattle.vfa_io.specs.States.{SourceState};
 
 use super::Failed;
 use std::alloc::Global;
@@ -10,22 +11,19 @@ use thiserror::Error;
 
 /// Where bytes come from.
 pub trait Source {
-    // The bytes that are left, where the source tells them.
-    ghost left: { Self → Option (List ℕ) };
+    // The bytes that are left, where the source tells them, and the faults so far, up to the greatest number of 64 bits.
+    ghost state: { Self → SourceState };
 
-    // The faults so far, up to the greatest number of 64 bits.
-    ghost faults: { Self → ℕ };
-
-    /// Puts the next bytes at the front of the buffer and returns how many they are.
+    /// Puts the next bytes at the beginning of the buffer and returns how many they are.
     /// 0 is the end of the input. After `Failed` nothing is known of the buffer.
     fn read(&mut self, buf: &mut [u8]) -> Result<usize, Failed>
         requires { 0 < length buf.old }
         ensures fits { IfOk result (λ n. n ≤ length buf.new) }
-        ensures given { IfOk result (λ n. Consumes (left self.old) (left self.new) (take n buf.new)) }
-        ensures end { IfOk result (λ n. IfSome (left self.old) (λ all. n ≡ 0 ↔ all ≡ [])) }
-        ensures unchanged { OnErr result (Keeps (left self.old) (left self.new)) }
-        ensures cause { HasCause (faults self.old) (faults self.new) result }
-        ensures count { faults self.new < 2 ^ 64 };
+        ensures given { IfOk result (λ n. Consumes (state self.old).left (state self.new).left (take n buf.new)) }
+        ensures end { IfOk result (λ n. IfSome (state self.old).left (λ all. n ≡ 0 ↔ all ≡ [])) }
+        ensures unchanged { OnErr result (Keeps (state self.old).left (state self.new).left) }
+        ensures cause { HasCause (state self.old).faults (state self.new).faults result }
+        ensures count { (state self.new).faults < 2 ^ 64 };
 }
 
 /// Why the input could not be read whole.
@@ -51,19 +49,19 @@ const CHUNK: usize = 4096;
 pub fn read_all<S: Source>(alloc: Global, source: &mut S, most: usize) -> Result<Vec<u8>, ReadFault>
     requires { most ≤ 2 ^ 24 }
 
-    ensures all { IfOk result (λ bytes. IfSome (S.left source.old)
-        (λ all. (bytes.items ≡ all) × (S.left source.new ≡ Some []))) }
+    ensures all { IfOk result (λ bytes. IfSome (S.state source.old).left
+        (λ all. (bytes.items ≡ all) × ((S.state source.new).left ≡ Some []))) }
     ensures within { IfOk result (λ bytes. length bytes.items ≤ most) }
 
-    ensures read { IsErrOf result ReadFault.Read → Rose (S.faults source.old) (S.faults source.new) }
+    ensures read { IsErrOf result ReadFault.Read → Rose (S.state source.old).faults (S.state source.new).faults }
     ensures read_within { IsErrOf result ReadFault.Read →
-        Gave (S.left source.old) (S.left source.new) (λ given. length given ≤ most) }
+        Gave (S.state source.old).left (S.state source.new).left (λ given. length given ≤ most) }
     ensures too_long { IsErrOf result ReadFault.TooLong →
-        Gave (S.left source.old) (S.left source.new) (λ given. most < length given) }
+        Gave (S.state source.old).left (S.state source.new).left (λ given. most < length given) }
 
     // After any error.
-    ensures some { (given : List ℕ) × Consumes (S.left source.old) (S.left source.new) given }
-    ensures later { S.faults source.old ≤ S.faults source.new }
+    ensures some { (given : List ℕ) × Consumes (S.state source.old).left (S.state source.new).left given }
+    ensures later { (S.state source.old).faults ≤ (S.state source.new).faults }
 {
     let mut bytes = Vec::new(alloc);
     'pieces: loop {
@@ -83,16 +81,16 @@ fn read_more<S: Source>(
     requires small { most ≤ 2 ^ 24 }
 
     ensures more { IfOk result (λ n. (vec_len bytes.new ≡ vec_len bytes.old + n) × (vec_len bytes.new ≤ most)) }
-    ensures given { OnOk result (Gave (S.left source.old) (S.left source.new)
+    ensures given { OnOk result (Gave (S.state source.old).left (S.state source.new).left
         (λ given. bytes.new.items ≡ bytes.old.items ++ given)) }
-    ensures end { IfOk result (λ n. IfSome (S.left source.old) (λ all. n ≡ 0 → all ≡ [])) }
+    ensures end { IfOk result (λ n. IfSome (S.state source.old).left (λ all. n ≡ 0 → all ≡ [])) }
 
-    ensures read { IsErrOf result ReadFault.Read → Rose (S.faults source.old) (S.faults source.new) }
-    ensures unchanged { IsErrOf result ReadFault.Read → Keeps (S.left source.old) (S.left source.new) }
-    ensures too_long { IsErrOf result ReadFault.TooLong → Gave (S.left source.old) (S.left source.new)
+    ensures read { IsErrOf result ReadFault.Read → Rose (S.state source.old).faults (S.state source.new).faults }
+    ensures unchanged { IsErrOf result ReadFault.Read → Keeps (S.state source.old).left (S.state source.new).left }
+    ensures too_long { IsErrOf result ReadFault.TooLong → Gave (S.state source.old).left (S.state source.new).left
         (λ given. most < vec_len bytes.old + length given) }
-    ensures some { (given : List ℕ) × Consumes (S.left source.old) (S.left source.new) given }
-    ensures later { S.faults source.old ≤ S.faults source.new }
+    ensures some { (given : List ℕ) × Consumes (S.state source.old).left (S.state source.new).left given }
+    ensures later { (S.state source.old).faults ≤ (S.state source.new).faults }
 {
     let mut chunk = [0; CHUNK];
     let Ok(count) = source.read(&mut chunk) else {

@@ -31,9 +31,7 @@ impl StdSource {
 }
 
 impl Source for StdSource {
-    ghost left = { λ _. None };
-
-    ghost faults = { λ s. s };
+    ghost state = { λ s. record { left = None; faults = s } };
 
     fn read(&mut self, buf: &mut [u8]) -> Result<usize, Failed> {
         match self.stdin.read(buf) {
@@ -80,9 +78,7 @@ impl StdSink {
 }
 
 impl Sink for StdSink {
-    ghost written = { λ _. None };
-
-    ghost faults = { λ s. s };
+    ghost state = { λ s. record { written = None; faults = s } };
 
     fn write(&mut self, bytes: &[u8]) -> Result<usize, Failed> {
         let written = match &mut self.stream {

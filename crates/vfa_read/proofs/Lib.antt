@@ -12,6 +12,7 @@ mod CommaLists
 mod CountedBlocks
 mod Definitions
 mod DigitLemmas
+mod EachText
 mod Exact
 mod FormReaders
 mod HeaderReaders
@@ -25,6 +26,7 @@ mod LiteralBits
 mod Loops
 mod Many
 mod NameCounts
+mod NameLaws
 mod NumberRanges
 mod OperationReaders
 mod Places

@@ -1,3 +1,4 @@
+pub mod Definedness
 pub mod Headers
 pub mod Items
 pub mod Productions

@@ -100,7 +100,7 @@ fn op_with_literals<const W: u32>(known: &[Known<W>], op: &Op) -> Op
     }
 }
 
-/// The lines with their operands so changed, and the operand that is returned behind them.
+/// The lines with their operands so changed, and the operand that is returned after them.
 pub fn with_literals<const W: u32>(
     alloc: Global,
     lines: &[Inst],

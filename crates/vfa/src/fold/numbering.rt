@@ -58,7 +58,7 @@ fn number(ids: &mut [u32], name: Option<ValueId>, id: usize) -> Option<ValueId>
     Some(ValueId(id))
 }
 
-/// The lines, and the operand that is returned behind them, with the new numbers of their names: the parameter's
+/// The lines, and the operand that is returned after them, with the new numbers of their names: the parameter's
 /// stays 0, and the results follow in text order.
 pub fn numbered(
     alloc: Global,

@@ -42,7 +42,7 @@ fn is_used(used: &[bool], name: Option<ValueId>) -> bool
     }
 }
 
-/// The lines that stay where the operand is returned behind them.
+/// The lines that stay where the operand is returned after them.
 pub fn used_lines(alloc: Global, lines: &[Inst], end: Operand) -> Result<Vec<Inst>, AllocError>
     requires { (w : ℕ) × (AreLines w 1 lines.now × IsOperand w (1 + length lines.now) end) }
     ensures { IfOk result (λ left. (width : ℕ) → left.items ≡ used_lines (Ret width end) lines.now) }

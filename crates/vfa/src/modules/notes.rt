@@ -1,12 +1,11 @@
 //! Notes on the functions that stay as they are, and the messages of refusals.
 
-ghost use Rattle.std.specs.Prelude.{◌≡◌, ◌≤◌, ◌++◌, codes, decimal, length, IfOk, OnOk};
+ghost use Rattle.std.specs.Prelude.{◌≡◌, ◌++◌, codes, decimal, IfOk, OnOk};
 ghost use Rattle.vfa_print.specs.Layout.{name_text, line_feed};
-ghost use Rattle.vfa.specs.Module.{define_name as name_of_define, kind_text, line_number, local_text, reason_text, note_text};
+ghost use Rattle.vfa.specs.Module.{kind_text, line_number, local_text, reason_text, named_note};
 ghost use Rattle.vfa.specs.Refusals.{refusal_text};
 
 use crate::modules::Refused;
-use crate::modules::defines::define_name;
 use std::alloc::{AllocError, Global};
 use vfa_ir::{Kind, Outside};
 use vfa_print::push_name;
@@ -105,27 +104,18 @@ fn push_reason(
     }
 }
 
-fn push_define_name(alloc: Global, text: &mut Vec<u8>, define: &[u8]) -> Result<(), AllocError>
-    requires { length define.now ≤ 16777216 }
-    ensures { OnOk result (text.new.items ≡ text.old.items ++ name_text (name_of_define define.now)) }
-{
-    let name = define_name(alloc, define)?;
-    push_name(text, name.bytes())
-}
-
-/// Puts the note on a define last that begins on this line and stays as it is.
+/// Puts the note on a define of this name last that begins on this line and stays as it is.
 pub fn push_note(
     alloc: Global,
     text: &mut Vec<u8>,
-    define: &[u8],
+    name: &[u8],
     first: u32,
     reason: &Outside,
 ) -> Result<(), AllocError>
-    requires { length define.now ≤ 16777216 }
-    ensures { OnOk result (text.new.items ≡ text.old.items ++ note_text define.now first reason.now) }
+    ensures { OnOk result (text.new.items ≡ text.old.items ++ named_note name.now first reason.now) }
 {
     text.extend_from_slice(b"note: @")?;
-    push_define_name(alloc, text, define)?;
+    push_name(text, name)?;
     text.extend_from_slice(b" carried: ")?;
     push_reason(alloc, text, first, reason)?;
     text.extend_from_slice(b"\n")

@@ -3,11 +3,12 @@
 ghost use Rattle.std.specs.Prelude.{◌≡◌, ◌≤◌, ◌↔◌, length, IfOk, IsTrue};
 ghost use Rattle.vfa_ir.specs.declared.reasons.Outside.TheVariants.{Memory};
 ghost use Rattle.vfa_module.specs.declared.items.Item.TheVariants.{Define};
-ghost use Rattle.vfa.specs.Module.{Part as Piece, IsPart};
-ghost use Rattle.vfa.specs.Parts.{part_of, IsRange, IsPlaced, IsKept};
+ghost use Rattle.vfa.specs.Module.{Piece, IsPiece};
+ghost use Rattle.vfa.specs.Parts.{piece_of, IsRange, IsPlaced, IsKept};
 
+use crate::modules::defines::define_name;
 use std::alloc::{AllocError, Global};
-use vfa_ir::{Function, Outside};
+use vfa_ir::{Function, Name, Outside};
 use vfa_lex::tokens;
 use vfa_module::Item;
 use vfa_read::read_function;
@@ -19,7 +20,7 @@ pub enum Part {
     Copied {
         /// The offset of the first byte.
         start: usize,
-        /// The offset behind the last byte.
+        /// The offset after the last byte.
         end: usize,
     },
     /// A define that reads as this function within the limits.
@@ -28,10 +29,12 @@ pub enum Part {
     Carried {
         /// The offset of the word `define`.
         start: usize,
-        /// The offset behind the closing brace.
+        /// The offset after the closing brace.
         end: usize,
         /// The line of the word, counted from 1.
         line: u32,
+        /// The first global name.
+        name: Name,
         /// Why it stays.
         reason: Outside,
     },
@@ -53,8 +56,8 @@ fn read_define(
 ) -> Result<Part, AllocError>
     requires range { IsRange bytes.now start end }
     requires limit { length bytes.now ≤ 16777216 }
-    ensures is { IfOk result (λ part. IsPart bytes.now (Define start end line) (part_of bytes.now part)) }
-    ensures only { IfOk result (λ part. (other : Piece) → IsPart bytes.now (Define start end line) other → other ≡ part_of bytes.now part) }
+    ensures is { IfOk result (λ part. IsPiece bytes.now (Define start end line) (piece_of bytes.now part)) }
+    ensures only { IfOk result (λ part. (other : Piece) → IsPiece bytes.now (Define start end line) other → other ≡ piece_of bytes.now part) }
     ensures kept { IfOk result (IsKept bytes.now) }
 {
     let text = &bytes[start..end];
@@ -65,10 +68,12 @@ fn read_define(
             if is_memory(&reason) {
                 return Err(AllocError);
             }
+            let name = define_name(alloc, text, &all)?;
             Ok(Part::Carried {
                 start,
                 end,
                 line,
+                name,
                 reason,
             })
         }
@@ -79,8 +84,8 @@ fn read_define(
 pub fn read_part(alloc: Global, bytes: &[u8], item: &Item) -> Result<Part, AllocError>
     requires place { IsPlaced bytes.now item.now }
     requires limit { length bytes.now ≤ 16777216 }
-    ensures is { IfOk result (λ part. IsPart bytes.now item.now (part_of bytes.now part)) }
-    ensures only { IfOk result (λ part. (other : Piece) → IsPart bytes.now item.now other → other ≡ part_of bytes.now part) }
+    ensures is { IfOk result (λ part. IsPiece bytes.now item.now (piece_of bytes.now part)) }
+    ensures only { IfOk result (λ part. (other : Piece) → IsPiece bytes.now item.now other → other ≡ piece_of bytes.now part) }
     ensures kept { IfOk result (IsKept bytes.now) }
 {
     match *item {

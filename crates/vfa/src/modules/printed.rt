@@ -1,4 +1,4 @@
-//! What stands in place of an accepted function.
+//! What `opt` writes for an accepted function.
 
 ghost use Rattle.std.specs.Prelude.{◌≡◌, ◌+◌, ◌<◌, ◌^◌, ℕ, List, IfOk};
 ghost use Rattle.vfa_ir.specs.Reads.{Fit};

@@ -1,4 +1,4 @@
-use Rattle.vfa.proofs.PartLists.{cover_placed}
+use Rattle.vfa.proofs.PieceLists.{cover_placed}
 use Rattle.vfa.proofs.modules.items_of.Goals as goal
 
 pub returns-in-Ok-clause-places : goal.returns-in-Ok-clause-places

@@ -1,17 +1,11 @@
--- What holds of the bytes that were read holds of those that the source had.
-use Rattle.std.proofs.Common.{◌≡◌, ◌≤◌, ℕ, List, Option, Some, None, length, subst, ◌∙◌}
-use Rattle.std.specs.Prelude.{IfSome, IfErr}
-use Rattle.vfa.specs.declared.run.Stop.{Stop}
-use Rattle.vfa.specs.Module.{Part, IsModule}
+-- A source that fails gave at most as many bytes as are allowed.
+use Rattle.std.proofs.Common.{Err, ap}
 use Rattle.vfa.specs.Refusals.{most}
+use Rattle.vfa.proofs.SourceInputs.{left_of, not_more}
 use Rattle.vfa.proofs.run.answer_source.Goals as goal
 
-told : (left : Option (List ℕ)) (bytes seen : List ℕ) (P : List ℕ → Type 0) (R : Type 0) → IfSome left (λ all. (bytes ≡ all) × R) → seen ≡ bytes → P seen → IfSome left P
-told None bytes seen P R all same holds = tt
-told (Some input) bytes seen P R all same holds = subst P (same ∙ all.0) holds
-
-pub returns-clause-answers : goal.returns-clause-answers
-returns-clause-answers g c = λ rose.
-    told _ c.in-Ok.input.items c.deref.result.now
-    (λ input. (parts : List Part) → IsModule input parts → length input ≤ most → IfErr c.answer.result (λ stop. stop ≡ Stop.Memory)) _
-    c.in-Ok.ensures.all c.deref.ensures.value (λ parts is limit. c.answer.ensures.answers parts is)
+pub returns-in-Err-Read-clause-too_long : goal.returns-in-Err-Read-clause-too_long
+returns-in-Err-Read-clause-too_long g c = λ input is more.
+    absurd (not_more (g.S.Source.state c.args.source.now).left (g.S.Source.state c.read_all.new.source).left input most
+    (left_of c.args.command.job (g.S.Source.state c.args.source.now) input is)
+    (c.in-Err-Read.ensures.read_within (ap Err c.in-Err-Read.field-0-is)) more)

@@ -6,8 +6,8 @@ use Rattle.vfa_io.proofs.reading.read_all.Given as goal
 abbrev pub invariant-pieces : goal.invariant-pieces
 invariant-pieces g l = record {
   within : vec_len l.bytes ≤ l.most;
-  given : Consumes (g.S.Source.left l.fn.source) (g.S.Source.left l.source) l.bytes.items;
-  later : g.S.Source.faults l.fn.source ≤ g.S.Source.faults l.source;
+  given : Consumes (g.S.Source.state l.fn.source).left (g.S.Source.state l.source).left l.bytes.items;
+  later : (g.S.Source.state l.fn.source).faults ≤ (g.S.Source.state l.source).faults;
 }
 
 abbrev pub decreases-pieces : goal.decreases-pieces

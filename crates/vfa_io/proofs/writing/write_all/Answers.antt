@@ -1,12 +1,12 @@
--- What was written before and what the last write took are a front of the bytes.
+-- What was written before and what the last write took are a prefix of the bytes.
 use Rattle.std.proofs.Common.{arith, length-drop}
 use Rattle.std.proofs.Common.{take_all}
-use Rattle.vfa_io.proofs.Told.{Appends-more, front_written}
+use Rattle.vfa_io.proofs.Told.{Appends-more, prefix_written}
 use Rattle.vfa_io.proofs.writing.write_all.Goals as goal
 
 pub returns-in_err-at-clause-some : goal.returns-in_err-at-clause-some
 returns-in_err-at-clause-some g c =
-    front_written _ _ _ c.args.bytes.now c.pieces.at c.pieces.invariant.written c.in_err-at.ensures.unchanged
+    prefix_written _ _ _ c.args.bytes.now c.pieces.at c.pieces.invariant.written c.in_err-at.ensures.unchanged
 
 pub pieces-preserved : goal.pieces-preserved
 pieces-preserved g c = record {

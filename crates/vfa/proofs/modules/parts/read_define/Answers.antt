@@ -1,5 +1,5 @@
 use Rattle.std.proofs.Common.{◌≡◌, ◌∙◌, true}
-use Rattle.vfa.proofs.PartLists.{tokens_read_only, tokens_refused_only}
+use Rattle.vfa.proofs.PieceLists.{tokens_read_only, tokens_refused_only}
 use Rattle.vfa.proofs.modules.parts.read_define.Goals as goal
 
 pub returns-in-Ok-clause-only : goal.returns-in-Ok-clause-only

@@ -10,5 +10,6 @@ returns-clause-refines c = record {
   function = c.in_ok-folded.folded;
   lines = c.in_ok-text.ensures.again.0;
   reads = c.in_ok-text.ensures.again.1;
+  same = λ other. absurd (other c.requires.first);
   refines = c.in_ok-folded.ensures.refines;
 }

@@ -1,6 +1,6 @@
--- The front of what is left went to the buffer.
+-- A prefix of what is left went to the buffer.
 use Rattle.std.proofs.Common.{◌≡◌, ◌-◌, ◌∙◌, length, take, drop, ap, sym, arith, take_all, length-drop, length-take}
-use Rattle.vfa_io.proofs.Told.{front_given}
+use Rattle.vfa_io.proofs.Told.{prefix_given}
 use Rattle.vfa_io.specs.Memory.{Reading}
 use Rattle.vfa_io.proofs.memory.MemSourceSource.read.Goals as goal
 
@@ -15,4 +15,4 @@ returns-clause-given c =
     copied ∙ ap (take n) rest ∙ ap (λ l. take n (drop at l)) c.deref-2.ensures.value in
     let is_length : length c.copy_from_slice.new.self ≡ n =
     omega (arith, ap length copied, length-take n (take (length all - at) (drop at all))) in
-    ap (λ (s : Reading). s.left) (sym c.self.view_is) ∙ front_given n at c.self.inside.bytes.items _ _ is_front is_length
+    ap (λ (s : Reading). s.left) (sym c.self.view_is) ∙ prefix_given n at c.self.inside.bytes.items _ _ is_front is_length
