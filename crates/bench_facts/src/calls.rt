@@ -73,6 +73,7 @@ pub fn restrict<const W: u32>(facts: &[Fact<W>], by: &Fact<W>) -> u128
 }
 
 /// Joins all cells with one, and gives a number that hangs on the results.
+/// Takes the amounts of all facts, and gives a number that hangs on the results.
 pub fn amounts<const W: u32>(facts: &[Fact<W>], by: &Fact<W>) -> u128
     requires { IsWidth W }
 {
@@ -85,6 +86,7 @@ pub fn amounts<const W: u32>(facts: &[Fact<W>], by: &Fact<W>) -> u128
     sum
 }
 
+/// Takes the divisors of all facts, and gives a number that hangs on the results.
 pub fn divisors<const W: u32>(facts: &[Fact<W>], by: &Fact<W>) -> u128
     requires { IsWidth W }
 {
@@ -97,6 +99,7 @@ pub fn divisors<const W: u32>(facts: &[Fact<W>], by: &Fact<W>) -> u128
     sum
 }
 
+/// Joins each cell with itself, and gives a number that hangs on the results.
 pub fn join_same(cells: &[Cell], by: &Cell) -> u128 {
     let mut sum = cell_weight(&Some(*by));
     'each: for cell in cells {
