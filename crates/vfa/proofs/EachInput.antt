@@ -10,7 +10,7 @@ use Rattle.vfa_ir.specs.Reads.{Reads, IsAccepted, IsReason}
 use Rattle.vfa_ir.specs.Tokens.{tokens_of}
 use Rattle.vfa_module.specs.declared.items.Item.{Item}
 use Rattle.vfa_module.specs.declared.items.SplitFault.{SplitFault}
-use Rattle.vfa_module.specs.Split.{Extent, is_clear, closing_brace, define_of_line, next_line, with_first, define_then, defines_behind, defines_from, items_between, split_of}
+use Rattle.vfa_module.specs.Split.{Extent, is_clear, closing_brace, define_of_line, next_line, with_first, define_then, defines_after, defines_from, items_between, split_of}
 use Rattle.vfa_print.specs.Trees.{function_text}
 use Rattle.vfa.specs.declared.command.Command.{Command}
 use Rattle.vfa.specs.declared.command.Job.{Job}
@@ -55,13 +55,13 @@ line_not_out : (text : List ℕ) (line : ℕ) (o : Option ℕ) (none : Result (L
 line_not_out text line None none next a b e = a e
 line_not_out text line (Some start) none next a b e = define_not_out text start line (closing_brace text start line) next b e
 
-defines_not_out : (text : List ℕ) (skip place line : ℕ) (left : List ℕ) → RanOut (defines_behind text skip place line left) → ⊥
+defines_not_out : (text : List ℕ) (skip place line : ℕ) (left : List ℕ) → RanOut (defines_after text skip place line left) → ⊥
 defines_not_out text skip place line [] e = found_not_out [] e
 defines_not_out text (suc skip) place line (b ∷ left) e = defines_not_out text skip (place + 1) line left e
 defines_not_out text zero place line (b ∷ left) e =
     line_not_out text line (define_of_line text place)
-    (defines_behind text (next_line text place - (place + 1)) (place + 1) (line + 1) left)
-    (λ t. defines_behind text (next_line text t.end - (place + 1)) (place + 1) (t.line + 1) left)
+    (defines_after text (next_line text place - (place + 1)) (place + 1) (line + 1) left)
+    (λ t. defines_after text (next_line text t.end - (place + 1)) (place + 1) (t.line + 1) left)
     (defines_not_out text (next_line text place - (place + 1)) (place + 1) (line + 1) left)
     (λ t. defines_not_out text (next_line text t.end - (place + 1)) (place + 1) (t.line + 1) left)
     e

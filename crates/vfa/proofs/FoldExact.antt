@@ -3,6 +3,7 @@ use Rattle.std.proofs.Common.{◌≡◌, ℕ, List, [], ◌∷◌, ◌++◌, get
 use Rattle.vfa_ir.specs.declared.functions.Block.{Block}
 use Rattle.vfa_ir.specs.declared.functions.Value.{Value}
 use Rattle.vfa_ir.specs.declared.functions.Param.{Param}
+use Rattle.vfa_ir.specs.declared.functions.CallOp.{CallOp}
 use Rattle.vfa_ir.specs.declared.functions.Function.{Function}
 use Rattle.vfa.specs.First.{IsOneBlock, IsFirst}
 use Rattle.vfa.specs.Fold.{results_of, id_at, block_at, values_at, folded}
@@ -24,6 +25,7 @@ with_names f words b names = record {
   tail = f.tail;
   values = values_at names f.values;
   blocks = block_at names (left_block f.width b) ∷ [];
+  calls = [];
 }
 
 abbrev made : Function → List Param → Block → Function
@@ -35,6 +37,7 @@ made f params b = record {
   tail = f.tail;
   values = values_at (left_names f.width b) f.values;
   blocks = block_at (left_names f.width b) (left_block f.width b) ∷ [];
+  calls = [];
 }
 
 abbrev build : ℕ → List ℕ → List (List ℕ) → List Param → List ℕ → List Value → List Block → Function
@@ -46,6 +49,7 @@ build width name lead params tail values blocks = record {
   tail = tail;
   values = values;
   blocks = blocks;
+  calls = [];
 }
 
 whole : (width : ℕ) (name name' : List ℕ) (lead lead' : List (List ℕ)) (params params' : List Param) (tail tail' : List ℕ) (values values' : List Value) (blocks blocks' : List Block) →
@@ -68,12 +72,13 @@ folded_plain : (f : Function) → IsFirst f → (b : Block) → f.blocks ≡ b �
       tail = f.tail;
       values = values_at (left_names f.width b) f.values;
       blocks = block_at (left_names f.width b) (left_block f.width b) ∷ [];
+      calls = [];
     }
 folded_plain f first b one =
     let param = one_parameter f.params first.parameter in
     let results = results_of (left_block f.width b).insts in
-    let same : f ≡ record { name = f.name; lead = f.lead; width = f.width; params = record { value = record { 0 = 0 }; words = param.words } ∷ []; tail = f.tail; values = f.values; blocks = b ∷ [] } =
-    same_function f (record { value = record { 0 = 0 }; words = param.words } ∷ []) (b ∷ []) param.is one in
+    let same : f ≡ record { name = f.name; lead = f.lead; width = f.width; params = record { value = record { 0 = 0 }; words = param.words } ∷ []; tail = f.tail; values = f.values; blocks = b ∷ []; calls = [] } =
+    same_function f (record { value = record { 0 = 0 }; words = param.words } ∷ []) (b ∷ []) param.is one first.calls in
     let plain : folded f ≡ with_names f param.words b (0 ∷ (results ++ [])) = ap folded same in
     let names : with_names f param.words b (0 ∷ (results ++ [])) ≡ with_names f param.words b (0 ∷ results) =
     ap (λ rest. with_names f param.words b (0 ∷ rest)) (append-nil results) in
@@ -84,12 +89,13 @@ pub fold_exact : (f : Function) → IsFirst f → (blocks : List Block) (block :
     (name : List ℕ) (lead : List (List ℕ)) (params : List Param) (tail : List ℕ) (values seen : List Value) (left : Block) (lefts : List Block) →
     left ≡ block_at (left_names f.width block) (left_block f.width block) →
     values ≡ values_at (left_names f.width block) seen → seen ≡ f.values →
-    name ≡ f.name → lead ≡ f.lead → params ≡ f.params → tail ≡ f.tail → lefts ≡ left ∷ [] →
-    record { name = name; lead = lead; width = f.width; params = params; tail = tail; values = values; blocks = lefts } ≡ folded f
-fold_exact f first blocks block read is name lead params tail values seen left lefts left_is values_is seen_is name_is lead_is params_is tail_is lefts_is =
+    name ≡ f.name → lead ≡ f.lead → params ≡ f.params → tail ≡ f.tail → lefts ≡ left ∷ [] → (calls : List CallOp) → calls ≡ [] →
+    record { name = name; lead = lead; width = f.width; params = params; tail = tail; values = values; blocks = lefts; calls = calls } ≡ folded f
+fold_exact f first blocks block read is name lead params tail values seen left lefts left_is values_is seen_is name_is lead_is params_is tail_is lefts_is calls none =
     let one : f.blocks ≡ block ∷ [] = sym read ∙ only_block f.width blocks block (subst (λ bs. IsOneBlock f.width bs) (sym read) first.block) is in
     let all_values : values ≡ values_at (left_names f.width block) f.values = values_is ∙ ap (values_at (left_names f.width block)) seen_is in
     let all_blocks : lefts ≡ block_at (left_names f.width block) (left_block f.width block) ∷ [] = lefts_is ∙ ap (λ b. b ∷ []) left_is in
-    whole f.width name f.name lead f.lead params f.params tail f.tail values (values_at (left_names f.width block) f.values) lefts
+    ap (λ cs. record { name = name; lead = lead; width = f.width; params = params; tail = tail; values = values; blocks = lefts; calls = cs }) none
+    ∙ whole f.width name f.name lead f.lead params f.params tail f.tail values (values_at (left_names f.width block) f.values) lefts
     (block_at (left_names f.width block) (left_block f.width block) ∷ []) name_is lead_is params_is tail_is all_values all_blocks
     ∙ sym (folded_plain f first block one)

@@ -39,7 +39,7 @@ op_numbered : (w m n : ℕ) (names before : List ℕ) (op : Op) → Below names 
 op_numbered w m n names before (Bin And flags width a b) below defined is =
     (is.0, operand_numbered w m n names before a below defined.0 is.1, operand_numbered w m n names before b below defined.1 is.2)
 op_numbered w m n names before (Bin Or flags width a b) below defined is =
-    (is.0, operand_numbered w m n names before a below defined.0 is.1, operand_numbered w m n names before b below defined.1 is.2)
+    (is.0, operand_numbered w m n names before a below defined.0 is.1, operand_numbered w m n names before b below defined.1 is.2, is.3)
 op_numbered w m n names before (Bin Xor flags width a b) below defined is =
     (is.0, operand_numbered w m n names before a below defined.0 is.1, operand_numbered w m n names before b below defined.1 is.2)
 op_numbered w m n names before _ below defined is = absurd is
@@ -210,6 +210,7 @@ module _ (w : ℕ) (lines : List Inst) (a : Operand) (are : AreLines w 1 lines) 
     types = All-from_recursion (λ (v : Value). v.ty ≡ Int w) (values_at (left_names w lines a) values)
         (named_have (λ (v : Value). v.ty ≡ Int w) values (recursion_from_All (λ (v : Value). v.ty ≡ Int w) values types) (left_names w lines a));
     names = values_again;
+    calls = refl;
   }
 
 -- a function with its constants folded is of the form again
@@ -219,7 +220,7 @@ folded_is_first f first =
     let block = block_parts f.width f.blocks first.block in
     let same : f ≡ one_block f.name f.lead f.width param.words f.tail f.values block.label block.lines block.a =
     same_function f (record { value = record { 0 = 0 }; words = param.words } ∷ [])
-    (record { name = block.label; phis = []; insts = block.lines; term = Ret f.width block.a } ∷ []) param.is block.is in
+    (record { name = block.label; phis = []; insts = block.lines; term = Ret f.width block.a } ∷ []) param.is block.is first.calls in
     subst (λ g. IsFirst (folded g)) (sym same)
     (form_again f.width block.lines block.a block.lines_are block.operand f.values
     (count_lines f f.blocks block.label block.lines (Ret f.width block.a) first.names block.is) f.name f.lead param.words f.tail

@@ -15,7 +15,7 @@ use Rattle.vfa_ir.specs.declared.functions.Param.{Param}
 use Rattle.vfa_ir.specs.declared.functions.Function.{Function}
 use Rattle.vfa_ir.specs.Grammar.{IsWidth}
 use Rattle.vfa_ir.specs.Words.{is_among, parameter_words}
-use Rattle.vfa_ir.specs.Printable.{IsPrintable, IsKeptName, kept_names, inst_ids, ids_of, inst_types, op_type, IsIntegerType, HasItsTypes, IsOperand as IsWritten, AreOperands, HasItsFlags, PrintableOp, HasItsResult, PrintableInst, PrintablePhi, PrintableBlock}
+use Rattle.vfa_ir.specs.Printable.{IsPrintable, IsKeptName, kept_names, inst_ids, ids_of, inst_types, op_type, IsIntegerType, HasItsTypes, IsOperand as IsWritten, AreOperands, HasItsFlags, PrintableOp, HasItsResult, PrintableInst, PrintablePhi, PrintableBlock, PrintableCall, call_place, call_places}
 use Rattle.vfa.specs.First.{IsOperand, IsBitwise, AreLines, IsFirst}
 use Rattle.vfa.specs.Fold.{Facts, no_facts, facts_after, op_with_literals, lines_with_literals, used_lines, stays, with_name, results_of, op_at, operand_at, line_at, values_at, folded}
 use Rattle.vfa.proofs.FoldRefines.{one_block, literal_lines, literal_end, left_lines, left_names, one_parameter, block_parts, count_lines, same_function}
@@ -35,15 +35,16 @@ HaveFlags (i ∷ rest) = HasFlags i.op × HaveFlags rest
 
 literal_flags : (w : ℕ) (facts : Facts) (op : Op) → HasFlags op → HasFlags (op_with_literals w facts op)
 literal_flags w facts (Op.Bin bin flags width a b) has = has
-literal_flags w facts (Op.Icmp pred width a b) has = has
+literal_flags w facts (Op.Icmp pred samesign width a b) has = has
 literal_flags w facts (Op.Select width c a b) has = has
-literal_flags w facts (Op.Cast cast from to a) has = has
+literal_flags w facts (Op.Cast cast flags from to a) has = has
 literal_flags w facts (Op.Freeze width a) has = has
 literal_flags w facts (Op.Two fun width a b) has = has
 literal_flags w facts (Op.One fun width a strict) has = has
 literal_flags w facts (Op.Over over width a b) has = has
 literal_flags w facts (Op.Part width pair index) has = has
 literal_flags w facts (Op.Assume c) has = has
+literal_flags w facts (Op.Call width call) has = has
 
 literals_flags : (w : ℕ) (lines : List Inst) (facts : Facts) → HaveFlags lines → HaveFlags (lines_with_literals w facts lines)
 literals_flags w [] facts have = tt
@@ -60,15 +61,16 @@ used_flags term (i ∷ rest) have =
 
 numbered_flag : (names : List ℕ) (op : Op) → HasFlags op → HasFlags (op_at names op)
 numbered_flag names (Op.Bin bin flags width a b) has = has
-numbered_flag names (Op.Icmp pred width a b) has = has
+numbered_flag names (Op.Icmp pred samesign width a b) has = has
 numbered_flag names (Op.Select width c a b) has = has
-numbered_flag names (Op.Cast cast from to a) has = has
+numbered_flag names (Op.Cast cast flags from to a) has = has
 numbered_flag names (Op.Freeze width a) has = has
 numbered_flag names (Op.Two fun width a b) has = has
 numbered_flag names (Op.One fun width a strict) has = has
 numbered_flag names (Op.Over over width a b) has = has
 numbered_flag names (Op.Part width pair index) has = has
 numbered_flag names (Op.Assume c) has = has
+numbered_flag names (Op.Call width call) has = has
 
 numbered_flags : (names : List ℕ) (lines : List Inst) → HaveFlags lines → HaveFlags (map (line_at names) lines)
 numbered_flags names [] have = tt
@@ -76,15 +78,16 @@ numbered_flags names (i ∷ rest) have = (numbered_flag names i.op have.0, numbe
 
 op_flags : (f : Function) (op : Op) → PrintableOp f op → HasFlags op
 op_flags f (Op.Bin bin flags width a b) is = is.0
-op_flags f (Op.Icmp pred width a b) is = tt
+op_flags f (Op.Icmp pred samesign width a b) is = tt
 op_flags f (Op.Select width c a b) is = tt
-op_flags f (Op.Cast cast from to a) is = tt
+op_flags f (Op.Cast cast flags from to a) is = tt
 op_flags f (Op.Freeze width a) is = tt
 op_flags f (Op.Two fun width a b) is = tt
 op_flags f (Op.One fun width a strict) is = tt
 op_flags f (Op.Over over width a b) is = tt
 op_flags f (Op.Part width pair index) is = tt
 op_flags f (Op.Assume c) is = tt
+op_flags f (Op.Call width call) is = tt
 
 lines_flags : (f : Function) (lines : List Inst) → AllByRecursion (PrintableInst f) lines → HaveFlags lines
 lines_flags f [] all = tt
@@ -146,6 +149,19 @@ alike w (v ∷ values) all [] same count = absurd (omega arith)
 alike w (v ∷ values) all (t ∷ types) same count =
     ap (λ u. u ∷ map (λ (v : Value). v.ty) values) (all.0 ∙ sym same.0)
     ∙ ap (λ us. t ∷ us) (alike w values all.1 types same.1 (omega arith))
+
+-- lines of bitwise operations have no calls
+calls_nothing : (w n : ℕ) (op : Op) → IsBitwise w n op → call_place op ≡ None
+calls_nothing w n (Op.Bin Bin.And flags v a b) is = refl
+calls_nothing w n (Op.Bin Bin.Or flags v a b) is = refl
+calls_nothing w n (Op.Bin Bin.Xor flags v a b) is = refl
+calls_nothing w n _ is = absurd is
+
+lines_call_nothing : (w n : ℕ) (lines : List Inst) → AreLines w n lines → filter_map (λ (i : Inst). call_place i.op) lines ≡ []
+lines_call_nothing w n [] are = refl
+lines_call_nothing w n (i ∷ rest) are =
+    let places : List ℕ = filter_map (λ (j : Inst). call_place j.op) rest in
+    ap (λ o. cons_option o places) (calls_nothing w n i.op are.1) ∙ lines_call_nothing w (suc n) rest are.2
 
 op_typed : (w n : ℕ) (op : Op) → IsBitwise w n op → op_type op ≡ Ty.Int w
 op_typed w n (Op.Bin Bin.And flags v a b) is = ap Ty.Int is.0
@@ -335,6 +351,9 @@ module _ (name : List ℕ) (lead : List (List ℕ)) (w : ℕ) (words : List (Lis
       (used_flags (Term.Ret w (literal_end w lines a)) (literal_lines w lines)
       (literals_flags w lines (no_facts w) (lines_flags g lines (recursion_from_All (PrintableInst g) lines blocks.0.insts))))
 
+  no_calls : call_places made ≡ range_with_len 0 (length made.calls)
+  no_calls = append-nil (filter_map (λ (i : Inst). call_place i.op) left) ∙ lines_call_nothing w 1 left first.block.1
+
   block_again : AllByRecursion (PrintableBlock made) made.blocks
   block_again =
       let under : 1 + length left ≤ length made.values = omega (arith, left_count) in (
@@ -368,6 +387,8 @@ module _ (name : List ℕ) (lead : List (List ℕ)) (w : ℕ) (words : List (Lis
     distinct = left_distinct bytes_eq (kept_names made) (kept_names (one_block name lead w words tail values label lines a)) names_left p.distinct;
     some = λ none. cc;
     blocks = All-from_recursion (PrintableBlock made) made.blocks block_again;
+    call_places = no_calls;
+    calls = All-from_recursion (PrintableCall made) [] tt;
   }
 
 -- a function with its constants folded has a text where the function has one
@@ -378,7 +399,7 @@ folded_printable f printable first =
     let g = one_block f.name f.lead f.width param.words f.tail f.values block.label block.lines block.a in
     let same : f ≡ g =
     same_function f (record { value = record { 0 = 0 }; words = param.words } ∷ [])
-    (record { name = block.label; phis = []; insts = block.lines; term = Term.Ret f.width block.a } ∷ []) param.is block.is in
+    (record { name = block.label; phis = []; insts = block.lines; term = Term.Ret f.width block.a } ∷ []) param.is block.is first.calls in
     subst (λ h. IsPrintable (folded h)) (sym same)
     (printable_again f.name f.lead f.width param.words f.tail f.values block.label block.lines block.a block.lines_are block.operand
     (count_lines f f.blocks block.label block.lines (Term.Ret f.width block.a) first.names block.is)

@@ -37,6 +37,7 @@ one_block name lead w words tail values label lines a = record {
   tail = tail;
   values = values;
   blocks = (record { name = label; phis = []; insts = lines; term = Ret w a }) ∷ [];
+  calls = [];
 }
 
 -- the environment that its parameter begins with
@@ -285,11 +286,12 @@ pub count_lines : (f : Function) (blocks : List Block) (label : Option (List ℕ
 count_lines f blocks label lines term count is =
     let counted : length f.values ≡ 1 + (length lines + 0) = count ∙ ap (λ bs. 1 + lines_of bs) is in omega arith
 
-pub same_function : (f : Function) (params : List Param) (blocks : List Block) → f.params ≡ params → f.blocks ≡ blocks →
-    f ≡ record { name = f.name; lead = f.lead; width = f.width; params = params; tail = f.tail; values = f.values; blocks = blocks }
-same_function f params blocks p b =
-    ap (λ ps. record { name = f.name; lead = f.lead; width = f.width; params = ps; tail = f.tail; values = f.values; blocks = f.blocks }) p
-    ∙ ap (λ bs. record { name = f.name; lead = f.lead; width = f.width; params = params; tail = f.tail; values = f.values; blocks = bs }) b
+pub same_function : (f : Function) (params : List Param) (blocks : List Block) → f.params ≡ params → f.blocks ≡ blocks → f.calls ≡ [] →
+    f ≡ record { name = f.name; lead = f.lead; width = f.width; params = params; tail = f.tail; values = f.values; blocks = blocks; calls = [] }
+same_function f params blocks p b c =
+    ap (λ ps. record { name = f.name; lead = f.lead; width = f.width; params = ps; tail = f.tail; values = f.values; blocks = f.blocks; calls = f.calls }) p
+    ∙ ap (λ bs. record { name = f.name; lead = f.lead; width = f.width; params = params; tail = f.tail; values = f.values; blocks = bs; calls = f.calls }) b
+    ∙ ap (λ cs. record { name = f.name; lead = f.lead; width = f.width; params = params; tail = f.tail; values = f.values; blocks = blocks; calls = cs }) c
 
 -- the function with its constants folded refines it
 pub refines_folded : (f : Function) → IsFirst f → Refines f (folded f)
@@ -298,7 +300,7 @@ refines_folded f first =
     let block = block_parts f.width f.blocks first.block in
     let same : f ≡ one_block f.name f.lead f.width param.words f.tail f.values block.label block.lines block.a =
     same_function f (record { value = record { 0 = 0 }; words = param.words } ∷ [])
-    (record { name = block.label; phis = []; insts = block.lines; term = Ret f.width block.a } ∷ []) param.is block.is in
+    (record { name = block.label; phis = []; insts = block.lines; term = Ret f.width block.a } ∷ []) param.is block.is first.calls in
     subst (λ g. Refines g (folded g)) (sym same)
     (folding_refines f.width block.lines block.a block.lines_are block.operand f.name f.lead param.words f.tail block.label
     first.lead param.free f.values

@@ -290,7 +290,7 @@ folded_settled f first =
     let a = block.a in
     let same : f ≡ one_block f.name f.lead w param.words f.tail f.values block.label lines a =
     same_function f (record { value = record { 0 = 0 }; words = param.words } ∷ [])
-    (record { name = block.label; phis = []; insts = lines; term = Ret w a } ∷ []) param.is block.is in
+    (record { name = block.label; phis = []; insts = lines; term = Ret w a } ∷ []) param.is block.is first.calls in
     let count : length f.values ≡ 1 + length lines = count_lines f f.blocks block.label lines (Ret w a) first.names block.is in
     let again : length (values_at (left_names w lines a) f.values) ≡ 1 + (length (final_lines w lines a) + 0) =
     values_again w lines a block.lines_are block.operand f.values count in

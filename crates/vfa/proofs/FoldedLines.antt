@@ -25,7 +25,7 @@ use Rattle.vfa.proofs.NumberedRuns.{Among, OperandDefined, OpDefined, AreDefined
 
 pub bitwise_op : (w n : ℕ) (op : Op) → IsBitwise w n op → IsBitwiseOp op
 bitwise_op w n (Bin And flags width a b) is = tt
-bitwise_op w n (Bin Or flags width a b) is = tt
+bitwise_op w n (Bin Or flags width a b) is = is.3
 bitwise_op w n (Bin Xor flags width a b) is = tt
 bitwise_op w n _ is = absurd is
 
@@ -49,7 +49,7 @@ literal_is w n facts a operand =
 
 literal_op_is : (w n : ℕ) (facts : Facts) (op : Op) → IsBitwise w n op → IsBitwise w n (op_with_literals w facts op)
 literal_op_is w n facts (Bin And flags width a b) is = (is.0, literal_is w n facts a is.1, literal_is w n facts b is.2)
-literal_op_is w n facts (Bin Or flags width a b) is = (is.0, literal_is w n facts a is.1, literal_is w n facts b is.2)
+literal_op_is w n facts (Bin Or flags width a b) is = (is.0, literal_is w n facts a is.1, literal_is w n facts b is.2, is.3)
 literal_op_is w n facts (Bin Xor flags width a b) is = (is.0, literal_is w n facts a is.1, literal_is w n facts b is.2)
 literal_op_is w n facts _ is = absurd is
 
@@ -186,7 +186,7 @@ option_named names (Some v) has = tt
 
 op_numbered : (names : List ℕ) (op : Op) → IsBitwiseOp op → IsBitwiseOp (op_at names op)
 op_numbered names (Bin And flags width a b) is = tt
-op_numbered names (Bin Or flags width a b) is = tt
+op_numbered names (Bin Or flags width a b) is = is
 op_numbered names (Bin Xor flags width a b) is = tt
 op_numbered names _ is = absurd is
 

@@ -1,17 +1,17 @@
 -- Lines of bitwise operations have one way to run: each gives one value, and none is undefined.
-use Rattle.std.proofs.Common.{◌≡◌, Option, Some, None, List, [], ◌∷◌, refl, subst, bit_and, bit_or, bit_xor}
+use Rattle.std.proofs.Common.{◌≡◌, false, Option, Some, None, List, [], ◌∷◌, refl, subst, bit_and, bit_or, bit_xor, if◌then◌else◌}
 use Rattle.vfa_ir.specs.declared.operations.ValueId.{ValueId}
 use Rattle.vfa_ir.specs.declared.operations.Op.{Op}
 use Rattle.vfa_ir.specs.declared.operations.Op.TheVariants.{Bin}
 use Rattle.vfa_ir.specs.declared.operations.Bin.TheVariants.{And, Or, Xor}
 use Rattle.vfa_ir.specs.declared.functions.Inst.{Inst}
-use Rattle.vfa.specs.Meaning.{Val, Poison, Env, operand_value, bitwise, done, Result, Gave, Gives}
+use Rattle.vfa.specs.Meaning.{Val, Poison, Env, operand_value, bitwise, done, Is, Result, Gave, Allowed, Gives}
 use Rattle.vfa.specs.Outcomes.{Outcome, Ends, with_value, After, Lines}
 
--- an `and`, `or` or `xor`
+-- an `and`, an `or` that is not `disjoint`, or `xor`
 abbrev pub IsBitwiseOp : Op → Type 0
 IsBitwiseOp (Bin And flags width a b) = Unit {0}
-IsBitwiseOp (Bin Or flags width a b) = Unit {0}
+IsBitwiseOp (Bin Or flags width a b) = flags.disjoint ≡ false
 IsBitwiseOp (Bin Xor flags width a b) = Unit {0}
 IsBitwiseOp _ = ⊥
 
@@ -25,14 +25,15 @@ value_of _ env = Poison
 pub gives_value : (op : Op) (env : Env) → IsBitwiseOp op → Gives op env (Gave (value_of op env))
 unfolding done value_of
 gives_value (Bin And flags width a b) env is = refl
-gives_value (Bin Or flags width a b) env is = refl
+gives_value (Bin Or flags width a b) env is = rw is refl
 gives_value (Bin Xor flags width a b) env is = refl
 gives_value _ env is = absurd is
 
 pub value_given : (op : Op) (env : Env) (r : Result) → IsBitwiseOp op → Gives op env r → r ≡ Gave (value_of op env)
 unfolding done value_of
 value_given (Bin And flags width a b) env r is gives = gives
-value_given (Bin Or flags width a b) env r is gives = gives
+value_given (Bin Or flags width a b) env r is gives =
+    subst (λ d. Allowed (if d then None else Some (Is (bitwise bit_or (operand_value env a) (operand_value env b)))) r) is gives
 value_given (Bin Xor flags width a b) env r is gives = gives
 value_given _ env r is gives = absurd is
 

@@ -7,7 +7,7 @@ use Rattle.vfa_ir.specs.declared.operations.ValueId.{ValueId}
 use Rattle.vfa_ir.specs.declared.operations.Operand.{Operand}
 use Rattle.vfa_ir.specs.declared.operations.Operand.TheVariants.{Value as Name, Literal, Poison}
 use Rattle.vfa_ir.specs.declared.operations.Op.{Op}
-use Rattle.vfa_ir.specs.declared.operations.Op.TheVariants.{Bin, Icmp, Select, Cast, Freeze, Two, One, Over, Part, Assume}
+use Rattle.vfa_ir.specs.declared.operations.Op.TheVariants.{Bin, Icmp, Select, Cast, Freeze, Two, One, Over, Part, Assume, Call}
 use Rattle.vfa_ir.specs.declared.operations.Bin.TheVariants.{And, Or, Xor}
 use Rattle.vfa_ir.specs.declared.functions.Inst.{Inst}
 use Rattle.vfa_dom.specs.Sets.{single_of}
@@ -107,15 +107,16 @@ pub op_twice : (w : ℕ) (facts : Facts) (op : Op) → op_with_literals w facts 
 op_twice w facts (Bin bin flags width a b) =
     ap (λ x. Bin bin flags width x (literal_for w facts (literal_for w facts b))) (literal_twice w facts a)
     ∙ ap (λ y. Bin bin flags width (literal_for w facts a) y) (literal_twice w facts b)
-op_twice w facts (Icmp pred width a b) = refl
+op_twice w facts (Icmp pred samesign width a b) = refl
 op_twice w facts (Select width c a b) = refl
-op_twice w facts (Cast cast from to a) = refl
+op_twice w facts (Cast cast flags from to a) = refl
 op_twice w facts (Freeze width a) = refl
 op_twice w facts (Two fun width a b) = refl
 op_twice w facts (One fun width a strict) = refl
 op_twice w facts (Over over width a b) = refl
 op_twice w facts (Part width pair index) = refl
 op_twice w facts (Assume c) = refl
+op_twice w facts (Call width call) = refl
 
 -- the facts are the same
 fact_case : (w : ℕ) (facts : Facts) (a : Operand) (o : Option ℕ) → single_of w (in_masks w (operand_fact w facts a)) ≡ o →

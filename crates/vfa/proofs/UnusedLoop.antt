@@ -41,7 +41,7 @@ operand_up w n m Poison le is = is
 
 pub bitwise_up : (w n m : ℕ) (op : Op) → n ≤ m → IsBitwise w n op → IsBitwise w m op
 bitwise_up w n m (Bin And flags width a b) le is = (is.0, operand_up w n m a le is.1, operand_up w n m b le is.2)
-bitwise_up w n m (Bin Or flags width a b) le is = (is.0, operand_up w n m a le is.1, operand_up w n m b le is.2)
+bitwise_up w n m (Bin Or flags width a b) le is = (is.0, operand_up w n m a le is.1, operand_up w n m b le is.2, is.3)
 bitwise_up w n m (Bin Xor flags width a b) le is = (is.0, operand_up w n m a le is.1, operand_up w n m b le is.2)
 bitwise_up w n m _ le is = absurd is
 

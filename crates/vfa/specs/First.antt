@@ -21,10 +21,10 @@ IsOperand w n (Name v) = v.0 < n
 IsOperand w n (Literal x) = x < 2 ^ w
 IsOperand w n Poison = ⊥
 
--- an `and`, `or` or `xor` of width w
+-- an `and`, `or` or `xor` of width w; an `or` does not say `disjoint`
 abbrev pub IsBitwise : ℕ → ℕ → Op → Type 0
 IsBitwise w n (Bin And flags width a b) = (width ≡ w) × IsOperand w n a × IsOperand w n b
-IsBitwise w n (Bin Or flags width a b) = (width ≡ w) × IsOperand w n a × IsOperand w n b
+IsBitwise w n (Bin Or flags width a b) = (width ≡ w) × IsOperand w n a × IsOperand w n b × (flags.disjoint ≡ false)
 IsBitwise w n (Bin Xor flags width a b) = (width ≡ w) × IsOperand w n a × IsOperand w n b
 IsBitwise w n _ = ⊥
 
@@ -55,7 +55,7 @@ lines_of [] = 0
 lines_of (block ∷ blocks) = length block.insts + lines_of blocks
 
 -- a function of this form: one block of `and`, `or`, `xor` and a return, all at one width, 8 or 32, over one parameter,
--- with no promise that anything is not poison. Its names stand in text order: the parameter, then the results
+-- without calls, and with no promise that anything is not poison. Its names stand in text order: the parameter, then the results
 pub record IsFirst (f : Function) : Type 0 where
   pub width : (f.width ≡ 8) ⊎ (f.width ≡ 32)
   pub lead : has_noundef f.lead ≡ false
@@ -63,3 +63,4 @@ pub record IsFirst (f : Function) : Type 0 where
   pub block : IsOneBlock f.width f.blocks
   pub types : All (λ (v : Value). v.ty ≡ Int f.width) f.values
   pub names : length f.values ≡ 1 + lines_of f.blocks
+  pub calls : f.calls ≡ []

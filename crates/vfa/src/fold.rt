@@ -98,5 +98,6 @@ pub fn fold(alloc: Global, f: &Function) -> Result<Function, AllocError>
         tail: f.tail.copied(alloc)?,
         values: Items(left.values),
         blocks: Items(vec![in alloc; left.block]?),
+        calls: Items(Vec::new(alloc)),
     })
 }

@@ -43,10 +43,10 @@ fn is_bitwise(op: &Op, width: u32, names: usize) -> bool
 {
     let Op::Bin {
         bin,
+        flags,
         width: of,
         a,
         b,
-        ..
     } = *op
     else {
         return false;
@@ -56,7 +56,12 @@ fn is_bitwise(op: &Op, width: u32, names: usize) -> bool
     }
     match bin {
         Bin::And => are_operands(a, b, width, names),
-        Bin::Or => are_operands(a, b, width, names),
+        Bin::Or => {
+            if flags.disjoint {
+                return false;
+            }
+            are_operands(a, b, width, names)
+        }
         Bin::Xor => are_operands(a, b, width, names),
         _ => false,
     }
@@ -152,7 +157,8 @@ fn has_values(blocks: &[Block], count: usize) -> bool
     count == 1 + blocks[0].insts.as_slice().len()
 }
 
-/// Whether the function is one block of `and`, `or` and `xor` and a return, at one width, 8 or 32, over one parameter.
+/// Whether the function is one block of `and`, `or` that is not `disjoint`, and `xor`, and a return, at one width, 8 or 32,
+/// over one parameter, without calls.
 pub fn is_first(f: &Function) -> bool
     ensures { IsTrue result ↔ IsFirst f.now }
 {
@@ -171,6 +177,9 @@ pub fn is_first(f: &Function) -> bool
         return false;
     }
     if !have_type(f.values.as_slice(), f.width) {
+        return false;
+    }
+    if !f.calls.as_slice().is_empty() {
         return false;
     }
     has_values(f.blocks.as_slice(), f.values.as_slice().len())

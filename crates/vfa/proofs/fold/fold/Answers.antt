@@ -13,7 +13,7 @@ returns-clause-exact c =
     fold_exact c.args.f.now c.requires c.as_slice.result.now c.index-as_slice-0.result c.as_slice.ensures c.index-as_slice-0.is
     _ _ _ _ _ c.as_slice-2.result.now c.in_ok-left.left.block _ c.in_ok-left.ensures.block c.in_ok-left.ensures.values
     c.as_slice-2.ensures c.in_ok-copied.ensures c.in_ok-copied_names.ensures c.in_ok-copied_params.ensures
-    c.in_ok-copied-2.ensures c.in_ok-vec.ensures.items
+    c.in_ok-copied-2.ensures c.in_ok-vec.ensures.items _ c.new.ensures.items
 
 pub returns-clause-refines : goal.returns-clause-refines
 returns-clause-refines c = subst (λ g. Refines c.args.f.now g) (sym (returns-clause-exact c)) (refines_folded c.args.f.now c.requires)
