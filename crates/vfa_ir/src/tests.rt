@@ -135,3 +135,32 @@ fn unnamed_blocks_and_values_share_their_numbers(rt: HostRuntime) {
     assert!(rt; block_shows(rt.alloc(), &f, 0, b"0"));
     assert!(rt; value_shows(rt.alloc(), &f, 1, b"1"));
 }
+
+#[test]
+fn operands_are_counted_as_written(rt: HostRuntime) {
+    let f = masked(rt.alloc()).expect(&rt, "memory");
+    let op = Op::Bin {
+        bin: Bin::Add,
+        flags: Flags {
+            nuw: true,
+            nsw: false,
+            exact: false,
+            disjoint: false,
+        },
+        width: 8,
+        a: Operand::Value(ValueId(0)),
+        b: Operand::Literal(15),
+    };
+    assert!(rt; operand(&f, &op, 1) == Some((Ty::Int(8), Operand::Literal(15))));
+    assert!(rt; operand(&f, &op, 2).is_none());
+    assert!(rt; op.bare() != op);
+    assert!(rt; op.bare().bare() == op.bare());
+}
+
+#[test]
+fn words_stand_for_operations(rt: HostRuntime) {
+    assert!(rt; keyword_of(&Bin::ALL, b"xor") == Some(Bin::Xor));
+    assert!(rt; keyword_of(&Bin::ALL, b"nor").is_none());
+    assert!(rt; is_among(b"fastcc", &CALL_WORDS));
+    assert!(rt; !is_among(b"nuw", &CALL_WORDS));
+}

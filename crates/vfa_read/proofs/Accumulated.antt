@@ -1,7 +1,6 @@
 -- What a loop has read so far, kept as the parts that it is split into, before what is left to read.
-use Rattle.std.proofs.Common.{◌≡◌, ℕ, List, [], ◌∷◌, ◌++◌, Result, Ok, Err, refl, sym, ap, ◌∙◌, append_assoc, append-nil, filter_map}
+use Rattle.std.proofs.Common.{◌≡◌, ℕ, List, [], ◌∷◌, ◌++◌, Result, Ok, Err, refl, sym, ap, ◌∙◌, append_assoc, append-nil}
 use Rattle.std.proofs.lemmas.List.Elements.{filter_map-append}
-use Rattle.vfa_ir.specs.declared.syntax.Incoming.{Incoming}
 use Rattle.vfa_ir.specs.Lexemes.{Lexeme}
 use Rattle.vfa_read.specs.declared.lines.BlockLines.{BlockLines}
 use Rattle.vfa_read.specs.declared.lines.Line.{Line}

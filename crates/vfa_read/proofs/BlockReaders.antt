@@ -1,5 +1,5 @@
 -- Reading terminators, all lines of a block, and blocks, is exact.
-use Rattle.std.proofs.Common.{◌≡◌, ℕ, ◌<◌, Bool, true, false, not, ◌&&◌, List, [], ◌∷◌, ◌++◌, map, flat_map, length, All, append_assoc, ◌∙◌, Option, Some, None, Ok, Err, ◌⊎◌, inl, inr, ⊎_elim, codes, refl, sym, ap, subst}
+use Rattle.std.proofs.Common.{◌≡◌, ℕ, ◌<◌, Bool, true, false, not, List, [], ◌∷◌, ◌++◌, map, flat_map, length, All, append_assoc, ◌∙◌, Option, Some, None, Ok, Err, ◌⊎◌, inl, inr, ⊎_elim, codes, refl, sym, ap, subst}
 use Rattle.std.specs.List.{AllByRecursion, join_by}
 use Rattle.std.proofs.lemmas.List.Elements.{recursion_from_All, All-from_recursion}
 use Rattle.vfa_ir.specs.declared.syntax.Attachment.{Attachment}

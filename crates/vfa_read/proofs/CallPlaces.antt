@@ -1,5 +1,5 @@
 -- The calls of instructions, and the places that they get.
-use Rattle.std.proofs.Common.{◌≡◌, ℕ, suc, ◌+◌, List, [], ◌∷◌, ◌++◌, Bool, true, false, if◌then◌else◌, length, Option, Some, None, count_by, cond, refl, sym, ap, ◌∙◌, append-nil, append_assoc, length-append, arith}
+use Rattle.std.proofs.Common.{◌≡◌, suc, ◌+◌, List, [], ◌∷◌, ◌++◌, Bool, true, false, if◌then◌else◌, length, Option, Some, None, count_by, cond, refl, sym, ap, ◌∙◌, append-nil, length-append, arith}
 use Rattle.std.specs.List.{cons_option}
 use Rattle.std.proofs.lemmas.List.Sums.{sum_by-cons}
 use Rattle.vfa_ir.specs.declared.functions.CallOp.{CallOp}

@@ -4,7 +4,7 @@ use Rattle.std.specs.List.{AllByRecursion, join_by}
 use Rattle.std.proofs.lemmas.List.Elements.{recursion_from_All, All-from_recursion}
 use Rattle.vfa_ir.specs.Lexemes.{Lexeme, mark}
 use Rattle.vfa_read.specs.Productions.{after_commas, comma_list, is_mark, listed, same_state}
-use Rattle.vfa_read.specs.Readers.{Reader, after, choose, made, many, next_passes, nothing, skip, ◌>>=◌}
+use Rattle.vfa_read.specs.Readers.{Reader, after, made, next_passes, skip, ◌>>=◌}
 use Rattle.vfa_read.specs.Tables.{the_mark}
 use Rattle.vfa_read.proofs.Exact.{Exact, Made, may, after_exact_with, fits_exact, made_exact, optional_exact, skip_exact}
 use Rattle.vfa_read.proofs.LeafReaders.{mark_exact}

@@ -1,5 +1,5 @@
 -- The lines of the items of blocks, where blocks are read one after another.
-use Rattle.std.proofs.Common.{◌≡◌, ℕ, suc, ◌+◌, List, [], ◌∷◌, ◌++◌, Option, Some, None, Result, Ok, Err, IfOk, length, map, flat_map, drop, get_or, refl, sym, ap, ◌∙◌, append_assoc, append-nil, length-append, arith}
+use Rattle.std.proofs.Common.{◌≡◌, ℕ, suc, ◌+◌, List, [], ◌∷◌, ◌++◌, Option, Result, Ok, Err, IfOk, length, map, flat_map, drop, get_or, refl, sym, ap, ◌∙◌, append_assoc, append-nil, length-append, arith}
 use Rattle.std.proofs.lemmas.List.{drop-drop}
 use Rattle.std.proofs.lemmas.Grind.{flat_map-append}
 use Rattle.vfa_ir.specs.declared.syntax.BasicBlock.{BasicBlock}
@@ -13,7 +13,7 @@ use Rattle.vfa_read.specs.declared.stops.Stop.{Stop}
 use Rattle.vfa_read.specs.Items.{block_numbers, line_lengths}
 use Rattle.vfa_read.specs.Productions as read
 use Rattle.vfa_read.specs.Productions.{block_labelled, block_of, block_rest}
-use Rattle.vfa_read.specs.Readers.{Gives, Reader, made, ◌>>=◌}
+use Rattle.vfa_read.specs.Readers.{Gives, Reader, made}
 use Rattle.vfa_read.specs.Seen.{all_of, line_numbers}
 use Rattle.vfa_read.proofs.BlockReaders.{block_lines_exact, block_lines_spelling}
 use Rattle.vfa_read.proofs.Exact.{bind_ok, ok_value}

@@ -1,10 +1,6 @@
 -- Reading the header of a function is exact.
-use Rattle.std.proofs.Common.{◌≡◌, ℕ, ◌<◌, ◌≤◌, Bool, true, false, not, ◌&&◌, List, [], ◌∷◌, ◌++◌, map, flat_map, length, Option, Some, None, Ok, Err, ◌⊎◌, inl, inr, ⊎_elim, All, IsTrue, bytes_eq, codes, decimal, refl, sym, ap, subst, arith}
-use Rattle.std.specs.List.{AllByRecursion, join_by}
-use Rattle.std.specs.Str.Parse.{AllDigits}
-use Rattle.std.proofs.lemmas.Fmt.{digits_decimal}
-use Rattle.std.proofs.lemmas.List.Elements.{recursion_from_All, All-from_recursion}
-use Rattle.std.proofs.lemmas.Str.Parse.{numerals_by_value, tells_digits}
+use Rattle.std.proofs.Common.{◌≡◌, ℕ, Bool, true, false, not, ◌&&◌, List, [], ◌∷◌, ◌++◌, map, Option, Some, None, ◌⊎◌, inl, inr, All, IsTrue, codes, refl, sym, ap, subst}
+use Rattle.std.specs.List.{join_by}
 use Rattle.vfa_ir.specs.declared.syntax.Parameter.{Parameter}
 use Rattle.vfa_ir.specs.Lexemes.{Lexeme, local, global, mark, word}
 use Rattle.vfa_ir.specs.Grammar.{IsWidth, FitsParameter}
@@ -12,9 +8,9 @@ use Rattle.vfa_ir.specs.Spelling as spell
 use Rattle.vfa_ir.specs.Words.{is_among, lead_words, parameter_words}
 use Rattle.vfa_read.specs.Headers.{starts_name, optional_name, parameter_of, parameter, parameters, Header, header}
 use Rattle.vfa_read.specs.Productions.{is_any_word, is_word_among, words_among}
-use Rattle.vfa_read.specs.Readers.{Reader, one, nothing, after, made, choose, skip, ended, many, next_passes, ◌>>=◌}
+use Rattle.vfa_read.specs.Readers.{Reader, one, after, made, skip, ended, next_passes}
 use Rattle.vfa_read.specs.Tables.{the_mark, the_word, local_name, global_name, type_of}
-use Rattle.vfa_read.proofs.Exact.{Exact, Made, anything, may, may_anything, one_exact, after_exact, after_exact_with, made_exact, optional_exact, skip_exact, ended_exact, fits_exact, spelled_exact}
+use Rattle.vfa_read.proofs.Exact.{Exact, Made, anything, may, may_anything, after_exact, after_exact_with, made_exact, optional_exact, skip_exact, ended_exact, fits_exact}
 use Rattle.vfa_read.proofs.LeafReaders.{mark_exact, word_exact, local_exact, global_exact, type_exact}
 use Rattle.vfa_read.proofs.CommaLists.{comma_list_exact, commas_close, commas_follow}
 use Rattle.vfa_read.proofs.WordLists.{and_both, and_first, and_last, last_any, no_letter, no_word_follows, words_exact, words_follow}

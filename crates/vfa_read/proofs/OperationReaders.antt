@@ -336,17 +336,17 @@ form_from (Operation.Freeze w a) f = by_form Form.Freeze (Operation.Freeze w a) 
 form_from (Operation.Extract w pair index) f = by_form Form.Extract (Operation.Extract w pair index) (record { from = (w, (pair, index)); fits = (f.0.0, (tt, f.0.1)); is = refl })
 form_from (Operation.Two words fun w a b) f = by_marker (λ m. Operation.Two (words_of m words.groups) fun w a b)
     (λ m. known_fits m w (Intrinsic.Two fun) (Operation.Two (words_of m words.groups) fun w a b) f.0.1.of_width
-        (record { from = ((a, b), words.groups); fits = ((f.0.1.first, f.0.1.second), tt); is = refl })) words.marker f.0.0.marker
+    (record { from = ((a, b), words.groups); fits = ((f.0.1.first, f.0.1.second), tt); is = refl })) words.marker f.0.0.marker
 form_from (Operation.One words fun w a strict) f = by_marker (λ m. Operation.One (words_of m words.groups) fun w a strict)
     (λ m. known_fits m w (Intrinsic.One fun) (Operation.One (words_of m words.groups) fun w a strict) f.0.1
-        (record { from = ((a, strict), words.groups); fits = ((f.0.2, f.0.3), tt); is = refl })) words.marker f.0.0.marker
+    (record { from = ((a, strict), words.groups); fits = ((f.0.2, f.0.3), tt); is = refl })) words.marker f.0.0.marker
 form_from (Operation.Over words over w a b) f = by_marker (λ m. Operation.Over (words_of m words.groups) over w a b)
     (λ m. inl (record { from = (w, (over, ((a, b), words.groups))); fits = (f.0.1.of_width, (tt, ((f.0.1.first, f.0.1.second), tt))); is = refl })) words.marker f.0.0.marker
 form_from (Operation.Assume words c) f = absurd f.1
 form_from (Operation.Call words attributes None name xs) f = absurd f.1
 form_from (Operation.Call words attributes (Some w) name xs) f = by_marker (λ m. Operation.Call (words_of m words.groups) attributes (Some w) name xs)
     (λ m. called_fits m attributes w (Callee.Other name) (Operation.Call (words_of m words.groups) attributes (Some w) name xs) f.0.1.attributes f.0.1.result f.0.1.callee
-        (record { from = (xs, words.groups); fits = (f.0.1.passed, tt); is = refl })) words.marker f.0.0.marker
+    (record { from = (xs, words.groups); fits = (f.0.1.passed, tt); is = refl })) words.marker f.0.0.marker
 
 pub operation_exact : Exact operation spell.operation DefiningFits op_follow
 operation_exact = fits_exact operation spell.operation Formed DefiningFits op_follow formed_exact

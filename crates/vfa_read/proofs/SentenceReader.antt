@@ -1,5 +1,5 @@
 -- Reading a whole function is exact, so at most one tree is spelled by a list of lexemes.
-use Rattle.std.proofs.Common.{◌≡◌, ℕ, zero, suc, ◌+◌, ◌<◌, Bool, true, false, ◌&&◌, List, [], ◌∷◌, ◌++◌, flat_map, length, take, Option, Some, None, Ok, Err, ◌⊎◌, inl, inr, IsTrue, IsSome, refl, sym, ap, ◌∙◌, subst, append_assoc, append-nil, length-append, arith, Result}
+use Rattle.std.proofs.Common.{◌≡◌, ℕ, zero, suc, ◌+◌, ◌<◌, Bool, true, ◌&&◌, List, [], ◌∷◌, ◌++◌, flat_map, length, take, Option, Some, None, Ok, Err, ◌⊎◌, inl, inr, IsTrue, IsSome, refl, sym, ap, ◌∙◌, subst, append_assoc, append-nil, length-append, arith, Result}
 use Rattle.std.specs.List.{AllByRecursion}
 use Rattle.std.proofs.Math.Seq.{take-append_seam}
 use Rattle.std.proofs.lemmas.List.Elements.{recursion_from_All, All-from_recursion}

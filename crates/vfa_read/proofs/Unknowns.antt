@@ -1,8 +1,5 @@
 -- Uses one behind the other: the first that is not defined.
-use Rattle.std.proofs.Common.{◌≡◌, ◌∙◌, ℕ, List, [], ◌∷◌, ◌++◌, Bool, true, false, if◌then◌else◌, Option, Some, None, Result, Ok, Err, refl, sym, ap, subst, append_assoc, ◌<◌, length, get_or, All, flat_map, filter_map, map, drop, ◌+◌, IfErr}
-use Rattle.std.proofs.lemmas.Grind.{flat_map-append}
-use Rattle.std.proofs.lemmas.List.{map-append}
-use Rattle.std.proofs.lemmas.List.Elements.{filter_map-append}
+use Rattle.std.proofs.Common.{◌≡◌, ◌∙◌, ℕ, List, [], ◌∷◌, ◌++◌, Bool, true, false, if◌then◌else◌, Some, None, Result, Ok, Err, refl, sym, ap, subst, append_assoc, ◌<◌, length, get_or, All, drop, ◌+◌, IfErr}
 use Rattle.std.specs.Result.{IsErrAnd}
 use Rattle.vfa_ir.specs.declared.reasons.Outside.{Outside}
 use Rattle.vfa_ir.specs.DefinedNames.{Use, is_known, used_name}

@@ -3,11 +3,11 @@ use Rattle.std.specs.Prelude.{ℕ, zero, suc, ◌==◌, Bool, true, false, if◌
 use Rattle.vfa_ir.specs.declared.syntax.BasicBlock.{BasicBlock}
 use Rattle.vfa_ir.specs.declared.syntax.Parameter.{Parameter}
 use Rattle.vfa_ir.specs.Grammar.{may_follow_parameters}
-use Rattle.vfa_ir.specs.Lexemes.{Lexeme, local, nameless_local, mark, word}
+use Rattle.vfa_ir.specs.Lexemes.{Lexeme, local, nameless_local, mark}
 use Rattle.vfa_ir.specs.Sentence.{Sentence}
 use Rattle.vfa_ir.specs.Words.{lead_words, parameter_words}
 use Rattle.vfa_read.specs.Productions.{is_any_word, words_among, comma_list, entry_label, block_with, further_blocks}
-use Rattle.vfa_read.specs.Readers.{Reader, one, nothing, after, made, choose, skip, ended, many, ◌>>=◌}
+use Rattle.vfa_read.specs.Readers.{Reader, one, nothing, after, made, choose, skip, ended, ◌>>=◌}
 use Rattle.vfa_read.specs.Tables.{the_mark, the_word, local_name, global_name, type_of}
 
 -- a parameter

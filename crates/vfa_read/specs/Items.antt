@@ -1,6 +1,6 @@
 -- A block as it is read: its phis and its other instructions in one list of lines, the operands and the metadata of a phi
 -- in one list of parts, since one token does not tell which of them comes.
-use Rattle.std.specs.Prelude.{ℕ, List, [], ◌∷◌, ◌++◌, drop, filter_map, length, map, Bool, true, false, Option, Some, None, IsTrue, ⊤}
+use Rattle.std.specs.Prelude.{ℕ, List, [], ◌∷◌, ◌++◌, drop, filter_map, length, map, Bool, false, Option, Some, None, IsTrue, ⊤}
 use Rattle.vfa_ir.specs.declared.syntax.Attachment.{Attachment}
 use Rattle.vfa_ir.specs.declared.syntax.BasicBlock.{BasicBlock}
 use Rattle.vfa_ir.specs.declared.syntax.Incoming.{Incoming}

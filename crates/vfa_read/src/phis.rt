@@ -147,7 +147,12 @@ impl<'a> Source<'a> {
 
     /// A phi, after its word.
     #[tactic(auto, unfolding(crate::specs::Productions::phi_rest))]
-    pub fn phi_rest(&self, alloc: Global, at: usize, result_name: Name) -> Result<(Line, usize), Stop>
+    pub fn phi_rest(
+        &self,
+        alloc: Global,
+        at: usize,
+        result_name: Name,
+    ) -> Result<(Line, usize), Stop>
         ensures { Gives (all_of self.now) result (phi_rest result_name (drop at (all_of self.now))) }
     {
         let (width, at) = self.width(at)?;

@@ -173,7 +173,13 @@ fn calls_of_functions_read(rt: HostRuntime) {
     );
     assert!(rt; stops_after(rt.alloc(), b"%r = call i8 @g(i8 %a,", b")"));
     assert!(rt; stops_after(rt.alloc(), b"%r = call i8", b"@llvm.foo(i8 %a)"));
-    assert!(rt; stops_after(rt.alloc(), b"%r = call noundef i8", b"@llvm.umax.i8(i8 %a, i8 %a)"));
+    assert!(rt;
+        stops_after(
+            rt.alloc(),
+            b"%r = call noundef i8",
+            b"@llvm.umax.i8(i8 %a, i8 %a)"
+        )
+    );
     assert!(rt; stops_after(rt.alloc(), b"%r = call", b"void @g()"));
     assert!(rt; stops_after(rt.alloc(), b"call", b"i8 @g()"));
     assert!(rt; stops_after(rt.alloc(), b"%r = call i8 @g(i8", b"align 4 %a)"));

@@ -1,4 +1,3 @@
-use Rattle.std.proofs.Common.{◌∙◌}
 use Rattle.vfa_read.proofs.KeywordTables.{binary_form}
 use Rattle.vfa_read.proofs.forms.form_of.Goals as goal
 

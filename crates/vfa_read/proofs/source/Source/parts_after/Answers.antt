@@ -1,4 +1,4 @@
-use Rattle.std.proofs.Common.{◌≡◌, true, drop, sym, ◌∙◌, ap, ◌∷◌, [], ◌++◌}
+use Rattle.std.proofs.Common.{◌≡◌, true, drop, sym, ◌∙◌, ap, ◌∷◌, []}
 use Rattle.vfa_ir.specs.Grammar.{IsWidth}
 use Rattle.vfa_read.specs.Items.{parts_after}
 use Rattle.vfa_read.specs.Productions.{phi_part, phi_parts, still_operands}

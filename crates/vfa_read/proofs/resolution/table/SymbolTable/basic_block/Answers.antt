@@ -1,8 +1,8 @@
-use Rattle.std.proofs.Common.{◌≡◌, ◌∙◌, ◌++◌, List, sym, ap, subst, refl, map, flat_map, length, None}
+use Rattle.std.proofs.Common.{◌≡◌, ◌∙◌, List, ap, subst, refl, map, flat_map, length, None}
 use Rattle.vfa_ir.specs.declared.syntax.Instruction.{Instruction}
 use Rattle.vfa_ir.specs.declared.syntax.PhiNode.{PhiNode}
 use Rattle.vfa_ir.specs.DefinedNames.{Use, block_uses, operation_uses, phi_uses, terminator_uses}
-use Rattle.vfa_ir.specs.Resolution.{instruction_calls, insts_of, phi_of}
+use Rattle.vfa_ir.specs.Resolution.{insts_of, phi_of}
 use Rattle.vfa_read.specs.Resolving.{IsUnknown, unknown_in}
 use Rattle.vfa_read.proofs.Unknowns.{all_known, error_resolves, first_unknown_of, second_unknown, third_unknown}
 use Rattle.vfa_read.proofs.resolution.table.SymbolTable.basic_block.Goals as goal

@@ -1,7 +1,6 @@
 use Rattle.std.proofs.Common.{◌+◌, List, drop, map, flat_map, ap}
 use Rattle.vfa_ir.specs.declared.syntax.Incoming.{Incoming}
 use Rattle.vfa_ir.specs.DefinedNames.{Use}
-
 use Rattle.vfa_read.specs.Resolving.{entry_of, entry_uses}
 use Rattle.vfa_read.proofs.Definitions.{item_and_rest}
 use Rattle.vfa_read.proofs.Unknowns.{item_known, item_unknown, item_made, error_resolves}

@@ -1,5 +1,4 @@
 use Rattle.std.proofs.Common.{◌≡◌, ◌++◌, drop, map, flat_map}
-
 use Rattle.vfa_read.specs.Resolving.{entry_of, entry_uses, unknown_in}
 use Rattle.vfa_read.proofs.resolution.table.SymbolTable.entries.Given as goal
 
