@@ -44,6 +44,7 @@ struct End<'a> {
 }
 
 /// Where a run reads and writes.
+#[derive(Drop)]
 struct Ends {
     source: MemSource,
     out: MemSink,
