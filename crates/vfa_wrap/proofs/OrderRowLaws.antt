@@ -1,14 +1,14 @@
 -- The arcs of minimum and maximum hold every result whose operands lie between the ends.
-use Rattle.std.proofs.Common.{◌≡◌, ℕ, ◌-◌, ◌^◌, ◌<◌, ◌≤◌, Bool, true, false, cond, min, max, ℤ, refl, ap, arith, Some}
+use Rattle.std.proofs.Common.{◌≡◌, ℕ, ◌-◌, ◌^◌, ◌<◌, ◌≤◌, Bool, true, false, cond, min, max, ℤ, refl, arith, Some}
 use Rattle.std.specs.Prelude.{IsTrue, ◌≤ℤ◌, int_lt}
 use Rattle.std.specs.Int.{int_min, int_max}
 use Rattle.std.proofs.lemmas.Int.{ints, clamps}
-use Rattle.vfa_word.specs.Numbers.{wrap, signed_of}
+use Rattle.vfa_word.specs.Numbers.{signed_of}
 use Rattle.vfa_word.specs.Operations.{signed_minimum, signed_maximum}
 use Rattle.vfa_word.proofs.Readings.{wrap_of_reading}
 use Rattle.vfa_wrap.specs.Arc.{in_span, sarc}
 use Rattle.vfa_wrap.specs.Ends.{EndsOf}
-use Rattle.vfa_wrap.specs.Between.{Between, AreEnds}
+use Rattle.vfa_wrap.specs.Between.{AreEnds}
 use Rattle.vfa_wrap.specs.RowResults.{result_of}
 use Rattle.vfa_wrap.specs.Rows.{HoldsResults, umin_row, umax_row, smin_row, smax_row}
 use Rattle.vfa_wrap.specs.declared.ends_op.EndsOp.TheVariants.{Umin, Umax, Smin, Smax}

@@ -1,5 +1,5 @@
 -- The rows of all operations: they hold every result, and are empty just where there is no divisor but 0.
-use Rattle.std.proofs.Common.{◌≡◌, ℕ, ◌-◌, ◌^◌, ◌<◌, ◌≤◌, Bool, true, false, cond, ℤ, pos, refl, sym, ◌∙◌, subst, arith, Option, Some, None, rules}
+use Rattle.std.proofs.Common.{◌≡◌, ℕ, ◌-◌, ◌^◌, ◌<◌, ◌≤◌, Bool, true, false, cond, ℤ, pos, refl, sym, ◌∙◌, subst, arith, Option, Some, None}
 use Rattle.std.proofs.lemmas.Bool.{false≢true}
 use Rattle.std.specs.Prelude.{IsNone, ◌↔◌, unsigned_abs, nat_lt, ◌==◌}
 use Rattle.std.specs.Option.{option_map}

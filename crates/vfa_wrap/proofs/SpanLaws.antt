@@ -1,19 +1,18 @@
 -- Spans of whole results: each result lies between their ends, both ends are results, and what that tells of the range of
 -- the width.
-use Rattle.std.proofs.Common.{◌≡◌, ℕ, zero, suc, ◌+◌, ◌-◌, ◌*◌, ◌%◌, ◌^◌, ◌<◌, ◌≤◌, min, Bool, true, false, not, cond, ℤ, pos, negsuc, refl, sym, ◌∙◌, ap, subst, arith, rules, ◌⊎◌, inl, inr, Option, Some, None}
-use Rattle.std.specs.Prelude.{◌≤ℤ◌, ◌<ℤ◌, ◌+ℤ◌, ◌-ℤ◌, ◌*ℤ◌, int_lt, nat_lt, ◌||◌, ◌&&◌, IsTrue, IsSomeAnd, IsNone, IfSome, ◌↔◌}
-use Rattle.std.specs.Int.{int_min, int_max}
+use Rattle.std.proofs.Common.{◌≡◌, ℕ, suc, ◌-◌, ◌*◌, ◌%◌, ◌^◌, ◌<◌, ◌≤◌, Bool, true, false, not, cond, ℤ, pos, negsuc, refl, sym, ◌∙◌, ap, subst, arith, rules, ◌⊎◌, inl, inr, Option, Some, None}
+use Rattle.std.specs.Prelude.{◌≤ℤ◌, ◌+ℤ◌, ◌-ℤ◌, ◌*ℤ◌, int_lt, ◌||◌, IsTrue, IsSomeAnd, IsNone, IfSome, ◌↔◌}
+use Rattle.std.specs.Int.{int_max}
 use Rattle.std.specs.Option.{option_map}
 use Rattle.std.proofs.lemmas.Bool.{cases_Bool, true≢false, and_parts, and_from}
-use Rattle.std.proofs.lemmas.Bool.Decides.{nat_tests}
 use Rattle.std.proofs.lemmas.Int.{ints, clamps}
 use Rattle.std.proofs.lemmas.Nat.{pow_pos, mul-le}
 use Rattle.std.proofs.Math.Nat.{mod-eq_of_lt}
 use Rattle.std.proofs.Math.Pow.{pow_mono}
 use Rattle.vfa_word.proofs.Wrapping.{wrap_below}
 use Rattle.vfa_word.proofs.Readings.{below_power}
-use Rattle.vfa_word.specs.Numbers.{wrap, signed_of, fits_unsigned, fits_signed}
-use Rattle.vfa_word.specs.Operations.{whole_unsigned, whole_signed, clamped_unsigned, clamped_signed}
+use Rattle.vfa_word.specs.Numbers.{wrap}
+use Rattle.vfa_word.specs.Operations.{clamped_unsigned, clamped_signed}
 use Rattle.vfa_word.specs.declared.arith.Arith.{Arith}
 use Rattle.vfa_word.specs.declared.arith.Arith.TheVariants.{Add, Sub, Mul, Shl}
 use Rattle.vfa_wrap.specs.Arc.{Span, in_span, arc_from}

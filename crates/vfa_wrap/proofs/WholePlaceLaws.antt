@@ -1,25 +1,24 @@
 -- Where whole results stand to the range of a width.
-use Rattle.std.proofs.Common.{◌≡◌, ℕ, zero, suc, ◌+◌, ◌-◌, ◌*◌, ◌%◌, ◌^◌, ◌<◌, ◌≤◌, min, Bool, true, false, not, cond, ℤ, pos, negsuc, neg_ℤ, refl, sym, ◌∙◌, ap, subst, arith, rules, ◌-ℤ◌, add-mul, ◌⊎◌, inl, inr, lt_of_mul-lt-mul_right}
-use Rattle.std.specs.Prelude.{◌≤ℤ◌, ◌<ℤ◌, ◌+ℤ◌, ◌*ℤ◌, int_lt, nat_lt, ◌||◌}
+use Rattle.std.proofs.Common.{◌≡◌, ℕ, ◌+◌, ◌-◌, ◌*◌, ◌%◌, ◌^◌, ◌<◌, ◌≤◌, min, Bool, true, false, not, cond, ℤ, pos, negsuc, neg_ℤ, refl, sym, ◌∙◌, ap, subst, arith, rules, ◌-ℤ◌, add-mul, inl, inr}
+use Rattle.std.specs.Prelude.{◌≤ℤ◌, ◌+ℤ◌, int_lt, ◌||◌}
 use Rattle.std.specs.Int.{int_min, int_max}
 use Rattle.std.proofs.lemmas.Bool.{cases_Bool, true≢false}
 use Rattle.std.proofs.lemmas.Bool.Decides.{nat_tests}
 use Rattle.std.proofs.lemmas.Int.{ints, clamps}
 use Rattle.std.proofs.lemmas.Nat.{pow_pos, pow_below}
 use Rattle.std.proofs.Math.Nat.{mod-eq_of_lt}
-use Rattle.vfa_word.specs.Numbers.{wrap, signed_of, fits_unsigned, fits_signed, whole_result}
-use Rattle.vfa_word.specs.Operations.{whole_unsigned, whole_signed, clamped_signed}
+use Rattle.vfa_word.specs.Numbers.{wrap, signed_of, fits_signed}
+use Rattle.vfa_word.specs.Operations.{whole_unsigned, whole_signed}
 use Rattle.vfa_word.specs.declared.arith.Arith.{Arith}
 use Rattle.vfa_word.specs.declared.arith.Arith.TheVariants.{Add, Sub, Mul, Shl}
 use Rattle.vfa_word.proofs.Wrapping.{wrap_less, wrap_difference_is, wrap_below}
 use Rattle.vfa_word.proofs.Readings.{twice, reading_of_wrap}
 use Rattle.vfa_wrap.specs.WholeSpans.{WholeSpan, range_of, fits_read, clamped_read, misses_range, whole_read, number_of}
-use Rattle.vfa_wrap.specs.WholePlaces.{place_of, places_of, read_of}
+use Rattle.vfa_wrap.specs.WholePlaces.{place_of}
 use Rattle.vfa_wrap.specs.declared.reading.Reading.{Reading}
 use Rattle.vfa_wrap.specs.declared.reading.Reading.TheVariants.{Unsigned, Signed}
 use Rattle.vfa_wrap.specs.declared.places.Place.{Place}
 use Rattle.vfa_wrap.specs.declared.places.Place.TheVariants.{Below, Within, Above}
-use Rattle.vfa_wrap.proofs.RowArcs.{FitsHalf, signed_fits}
 use Rattle.vfa_wrap.proofs.ProductLaws.{wrap-product, product_cases}
 
 -- ---- the number that a whole result wraps to

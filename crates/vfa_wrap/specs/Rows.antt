@@ -1,7 +1,7 @@
 -- The arc of the results of an operation whose operands are known by their ends alone: one row for each operation,
 -- over whole numbers without bound, after the operation of LLVM's ConstantRange that is named there. None: there is no
 -- result.
-use Rattle.std.specs.Prelude.{◌≡◌, ℕ, ◌-◌, ◌*◌, ◌/◌, ◌^◌, ◌<◌, ◌≤◌, ◌==◌, min, max, ◌&&◌, nat_lt, Option, Some, None, ℤ, pos, neg_ℤ, ◌-ℤ◌, ◌*ℤ◌, int_lt, int_le, unsigned_abs, if◌then◌else◌, ◌⊎◌, IsTrue, IsSomeAnd}
+use Rattle.std.specs.Prelude.{◌≡◌, ℕ, ◌-◌, ◌*◌, ◌/◌, ◌^◌, ◌<◌, ◌≤◌, ◌==◌, min, max, ◌&&◌, nat_lt, Option, Some, None, ℤ, pos, neg_ℤ, ◌-ℤ◌, int_lt, int_le, unsigned_abs, if◌then◌else◌, ◌⊎◌, IsTrue, IsSomeAnd}
 use Rattle.std.specs.Int.{int_min, int_max}
 use Rattle.vfa_word.specs.Numbers.{fits_signed, floor_div}
 use Rattle.vfa_wrap.specs.Arc.{Span, full_span, arc_from, sarc, in_span}

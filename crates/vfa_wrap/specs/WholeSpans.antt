@@ -1,9 +1,9 @@
 -- Spans of whole results: from the least to the greatest whole number that an operation gives of operands that lie
 -- between ends, before it wraps, and how such a span stands to the range of the width. LLVM's ConstantRange asks the same
 -- by unsignedAddMayOverflow and signedAddMayOverflow, and cuts by addWithNoWrap, and so on for the other operations.
-use Rattle.std.specs.Prelude.{◌≡◌, ℕ, ◌-◌, ◌*◌, ◌^◌, ◌<◌, Bool, true, false, not, ◌&&◌, ◌||◌, Option, Some, None, ℤ, pos, neg_ℤ, ◌+ℤ◌, ◌-ℤ◌, ◌*ℤ◌, ◌≤ℤ◌, int_lt, if◌then◌else◌, IsTrue, IsSomeAnd}
+use Rattle.std.specs.Prelude.{◌≡◌, ℕ, ◌-◌, ◌^◌, ◌<◌, Bool, true, false, not, ◌&&◌, ◌||◌, Option, Some, None, ℤ, pos, neg_ℤ, ◌+ℤ◌, ◌-ℤ◌, ◌*ℤ◌, ◌≤ℤ◌, int_lt, if◌then◌else◌, IsTrue, IsSomeAnd}
 use Rattle.std.specs.Int.{int_min, int_max}
-use Rattle.vfa_word.specs.Numbers.{wrap, signed_of, fits_unsigned, fits_signed}
+use Rattle.vfa_word.specs.Numbers.{wrap, fits_unsigned, fits_signed}
 use Rattle.vfa_word.specs.Operations.{whole_unsigned, whole_signed, clamped_unsigned, clamped_signed, sum_of, difference_of, product_of, shifted_left}
 use Rattle.vfa_word.specs.declared.arith.Arith.{Arith}
 use Rattle.vfa_word.specs.declared.arith.Arith.TheVariants.{Add, Sub, Mul, Shl}

@@ -1,4 +1,4 @@
-use Rattle.std.proofs.Common.{◌≡◌, ◌∙◌, sym, ap}
+use Rattle.std.proofs.Common.{◌∙◌, sym, ap}
 use Rattle.vfa_wrap.specs.WholeSpans.{range_of}
 use Rattle.vfa_word.specs.Numbers.{wrap}
 use Rattle.vfa_wrap.proofs.WholePlaceLaws.{least_signed}

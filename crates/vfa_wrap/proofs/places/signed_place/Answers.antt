@@ -1,4 +1,4 @@
-use Rattle.std.proofs.Common.{◌≡◌, arith, ◌∙◌, sym, ◌<◌, ◌^◌, rules}
+use Rattle.std.proofs.Common.{arith, ◌∙◌, sym}
 use Rattle.vfa_word.specs.Operations.{whole_signed}
 use Rattle.vfa_wrap.specs.declared.reading.Reading.TheVariants.{Signed}
 use Rattle.vfa_wrap.proofs.WholePlaceLaws.{within_place, below_place, above_place, signed_number}

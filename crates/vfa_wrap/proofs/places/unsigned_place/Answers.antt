@@ -1,4 +1,4 @@
-use Rattle.std.proofs.Common.{◌≡◌, arith, ◌∙◌, sym}
+use Rattle.std.proofs.Common.{arith, ◌∙◌, sym}
 use Rattle.vfa_word.specs.Operations.{whole_unsigned}
 use Rattle.vfa_wrap.specs.declared.reading.Reading.TheVariants.{Unsigned}
 use Rattle.vfa_wrap.proofs.WholePlaceLaws.{within_place, below_place, above_place, unsigned_number}

@@ -1,4 +1,3 @@
-use Rattle.std.proofs.Common.{◌≡◌}
 use Rattle.vfa_wrap.specs.Ends.{shown_ends}
 use Rattle.vfa_wrap.specs.Wrapped.{span_of}
 use Rattle.vfa_wrap.proofs.SpanLaws.{bound_none, bound_holds_at}

@@ -1,4 +1,4 @@
-use Rattle.std.proofs.Common.{◌≡◌, ◌∙◌, ap}
+use Rattle.std.proofs.Common.{◌∙◌, ap}
 use Rattle.vfa_wrap.specs.declared.places.Places.{Places}
 use Rattle.vfa_wrap.proofs.SpanLaws.{clamped_arc}
 use Rattle.vfa_wrap.proofs.spans.clamped.Goals as goal

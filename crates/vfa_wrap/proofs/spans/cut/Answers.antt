@@ -1,4 +1,4 @@
-use Rattle.std.proofs.Common.{◌≡◌, ◌∙◌, sym}
+use Rattle.std.proofs.Common.{◌∙◌, sym}
 use Rattle.vfa_wrap.proofs.SpanLaws.{bound_empty, bound_some}
 use Rattle.vfa_wrap.proofs.spans.cut.Goals as goal
 

@@ -1,4 +1,3 @@
-use Rattle.std.proofs.Common.{◌≡◌}
 use Rattle.vfa_wrap.specs.Ends.{shown_ends}
 use Rattle.vfa_wrap.proofs.SpanLaws.{places_from, difference_ends}
 use Rattle.vfa_wrap.proofs.spans.difference_places.Goals as goal

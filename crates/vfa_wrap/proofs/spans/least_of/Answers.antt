@@ -1,4 +1,3 @@
-use Rattle.std.proofs.Common.{◌≡◌}
 use Rattle.vfa_wrap.specs.Ends.{shown_ends}
 use Rattle.vfa_wrap.proofs.SpanLaws.{least_natural}
 use Rattle.vfa_wrap.proofs.spans.least_of.Goals as goal

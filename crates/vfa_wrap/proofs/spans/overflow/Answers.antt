@@ -1,4 +1,3 @@
-use Rattle.std.proofs.Common.{◌≡◌}
 use Rattle.vfa_wrap.specs.Ends.{shown_ends}
 use Rattle.vfa_wrap.proofs.SpanLaws.{overflow_tells}
 use Rattle.vfa_wrap.proofs.spans.overflow.Goals as goal

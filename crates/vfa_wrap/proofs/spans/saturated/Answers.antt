@@ -1,5 +1,3 @@
-use Rattle.std.proofs.Common.{◌≡◌}
-use Rattle.vfa_wrap.specs.Ends.{shown_ends}
 use Rattle.vfa_wrap.proofs.spans.saturated.Goals as goal
 
 pub returns : goal.returns

@@ -1,4 +1,3 @@
-use Rattle.std.proofs.Common.{◌≡◌}
 use Rattle.vfa_wrap.specs.Ends.{shown_ends}
 use Rattle.vfa_wrap.proofs.SpanLaws.{places_from, shift_ends}
 use Rattle.vfa_wrap.proofs.spans.shift_places.Goals as goal

@@ -1,4 +1,4 @@
-use Rattle.std.proofs.Common.{◌≡◌, ◌∙◌, sym, refl, arith, true, false}
+use Rattle.std.proofs.Common.{◌∙◌, sym, refl, arith, true, false}
 use Rattle.vfa_wrap.proofs.SpanLaws.{shift_place, amount_is}
 use Rattle.vfa_wrap.proofs.spans.shifted_place.Goals as goal
 

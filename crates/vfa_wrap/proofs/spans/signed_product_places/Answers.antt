@@ -1,4 +1,3 @@
-use Rattle.std.proofs.Common.{◌≡◌}
 use Rattle.vfa_wrap.specs.Ends.{shown_ends}
 use Rattle.vfa_wrap.specs.declared.reading.Reading.TheVariants.{Signed}
 use Rattle.vfa_wrap.proofs.SpanLaws.{places_from, product_ends}

@@ -1,4 +1,4 @@
-use Rattle.std.proofs.Common.{◌∙◌, sym, ap, ◌+◌, ◌%◌, ◌-◌, ◌^◌, ◌≤◌, ◌≡◌, ℕ}
+use Rattle.std.proofs.Common.{◌∙◌, sym, ap, ◌+◌, ◌^◌, ◌≤◌, ◌≡◌, ℕ}
 use Rattle.vfa_dom.specs.Results.{results}
 use Rattle.vfa_word.specs.Operations.{difference_of}
 use Rattle.vfa_wrap.specs.Arc.{Span, IsArc, steps, arc_from, difference_span, in_span}

@@ -1,4 +1,4 @@
-use Rattle.std.proofs.Common.{◌≡◌, ◌∙◌, sym}
+use Rattle.std.proofs.Common.{◌∙◌, sym}
 use Rattle.vfa_wrap.proofs.WholePlaceLaws.{within_tells, below_tells, above_tells, clamped_within, clamped_below, clamped_above}
 use Rattle.vfa_wrap.proofs.places.Place.clamped.Goals as goal
 

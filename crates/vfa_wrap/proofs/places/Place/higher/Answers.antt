@@ -1,4 +1,4 @@
-use Rattle.std.proofs.Common.{◌≡◌, ◌∙◌, sym}
+use Rattle.std.proofs.Common.{◌∙◌, sym}
 use Rattle.vfa_wrap.proofs.WholePlaceLaws.{above_first, above_second, other_of_below, below_other, greater_first, greater_second}
 use Rattle.vfa_wrap.proofs.places.Place.higher.Goals as goal
 

@@ -1,4 +1,4 @@
-use Rattle.std.proofs.Common.{◌≡◌, ◌∙◌, sym, rules}
+use Rattle.std.proofs.Common.{◌∙◌, sym}
 use Rattle.vfa_wrap.proofs.WholePlaceLaws.{is_within_tells, not_within}
 use Rattle.vfa_wrap.proofs.places.Place.is_within.Goals as goal
 

@@ -1,4 +1,4 @@
-use Rattle.std.proofs.Common.{◌≡◌, ◌∙◌, sym}
+use Rattle.std.proofs.Common.{◌∙◌, sym}
 use Rattle.vfa_wrap.proofs.WholePlaceLaws.{below_first, below_second, other_of_above, above_other, lesser_first, lesser_second}
 use Rattle.vfa_wrap.proofs.places.Place.lower.Goals as goal
 

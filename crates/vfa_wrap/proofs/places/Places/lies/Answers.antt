@@ -1,4 +1,4 @@
-use Rattle.std.proofs.Common.{◌≡◌, ◌∙◌, sym, ap}
+use Rattle.std.proofs.Common.{◌∙◌, sym, ap}
 use Rattle.vfa_wrap.specs.declared.places.Places.{Places}
 use Rattle.vfa_wrap.proofs.SpanLaws.{lies_is, lies_rest}
 use Rattle.vfa_wrap.proofs.places.Places.lies.Goals as goal

@@ -1,4 +1,4 @@
-use Rattle.std.proofs.Common.{◌≡◌, ◌∙◌, sym, ap}
+use Rattle.std.proofs.Common.{◌∙◌, sym, ap}
 use Rattle.vfa_wrap.specs.declared.places.Places.{Places}
 use Rattle.vfa_wrap.proofs.WholePlaceLaws.{low_misses, high_misses, meets_range}
 use Rattle.vfa_wrap.proofs.places.Places.misses.Goals as goal

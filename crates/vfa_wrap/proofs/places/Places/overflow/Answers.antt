@@ -1,4 +1,4 @@
-use Rattle.std.proofs.Common.{◌≡◌, ◌∙◌, sym}
+use Rattle.std.proofs.Common.{◌∙◌, sym}
 use Rattle.vfa_wrap.proofs.SpanLaws.{overflow_no, overflow_yes, overflow_open}
 use Rattle.vfa_wrap.proofs.places.Places.overflow.Goals as goal
 
