@@ -21,16 +21,12 @@ fn unsigned_operands(width: u32, a: Val, b: Val) -> Result<Numbers, Done>
         (λ done. (row : ℕ → ℕ → Done) → unsigned_division row a b ≡ done) }
     ensures nonzero { IfOk result (λ pair. pair.y ≢ 0) }
 {
-    let Some(y) = number(width, b) else {
-        return Err(Done::Ub);
-    };
-    if y == 0 {
+    let divisor = number(width, b).ok_or(Done::Ub)?;
+    if divisor == 0 {
         return Err(Done::Ub);
     }
-    match number(width, a) {
-        Some(x) => Ok(Numbers { x, y }),
-        None => Err(POISON),
-    }
+    let x = number(width, a).ok_or(POISON)?;
+    Ok(Numbers { x, y: divisor })
 }
 
 /// `udiv`.
@@ -68,9 +64,7 @@ fn signed_operands(width: u32, a: Val, b: Val) -> Result<Numbers, Done>
     ensures fit { IfOk result (λ pair. (pair.x < 2 ^ width) × (pair.y < 2 ^ width)) }
     ensures no_overflow { IfOk result (λ pair. pair.y ≡ 2 ^ width - 1 → pair.x ≢ 2 ^ (width - 1)) }
 {
-    let Some(y) = number(width, b) else {
-        return Err(Done::Ub);
-    };
+    let y = number(width, b).ok_or(Done::Ub)?;
     if y == 0 {
         return Err(Done::Ub);
     }

@@ -22,3 +22,6 @@ pub use laws::{
 };
 pub use operation::eval;
 pub use value::{Done, Val};
+
+#[cfg(test)]
+mod tests;

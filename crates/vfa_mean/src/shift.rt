@@ -1,6 +1,6 @@
 //! Shifts.
 
-ghost use Rattle.std.specs.Prelude.{◌≡◌, ◌<◌, ◌^◌, ◌&&◌, ◌||◌};
+ghost use Rattle.std.specs.Prelude.{◌≡◌, ◌<◌, ◌≤◌, ◌^◌, ◌&&◌, ◌||◌, MatchOption};
 ghost use Rattle.vfa_word.specs.Numbers.{IsWidth};
 ghost use Rattle.vfa_word.specs.Operations.{shifted_left, shifted_right_signed};
 ghost use Rattle.vfa_mean.specs.Meaning.{of_two};
@@ -12,6 +12,17 @@ use crate::numbers::{
 };
 use crate::{Done, Val};
 use vfa_ir::Flags;
+
+/// The amount of a shift, where it is below the width.
+fn amount(width: u32, y: u128) -> Option<u32>
+    ensures { MatchOption result (width ≤ y) (λ t. (t ≡ y) × (t < width)) }
+{
+    let t = u32::try_from(y).ok()?;
+    if width <= t {
+        return None;
+    }
+    Some(t)
+}
 
 /// Whether the product by 2^t leaves the unsigned range.
 fn leaves_unsigned(width: u32, x: u128, t: u32) -> bool
@@ -63,13 +74,12 @@ pub fn shift_left(width: u32, flags: Flags, a: Val, b: Val) -> Done
     let Some(Numbers { x, y }) = both_numbers(width, a, b) else {
         return POISON;
     };
-    if width as u128 <= y {
+    let Some(t) = amount(width, y) else {
         return POISON;
-    }
-    let amount = y as u32;
+    };
     number_unless(
-        breaks_flags(width, flags, x, amount),
-        shifted_left(width, x, amount),
+        breaks_flags(width, flags, x, t),
+        shifted_left(width, x, t),
     )
 }
 
@@ -90,12 +100,11 @@ pub fn shift_right(width: u32, flags: Flags, a: Val, b: Val) -> Done
     let Some(Numbers { x, y }) = both_numbers(width, a, b) else {
         return POISON;
     };
-    if width as u128 <= y {
+    let Some(t) = amount(width, y) else {
         return POISON;
-    }
-    let amount = y as u32;
-    let broken = flags.exact && loses_ones(x, amount);
-    number_unless(broken, x >> amount)
+    };
+    let broken = flags.exact && loses_ones(x, t);
+    number_unless(broken, x >> t)
 }
 
 /// The quotient of the reading by 2^t, rounded down, modulo 2^width.
@@ -117,10 +126,9 @@ pub fn shift_right_signed(width: u32, flags: Flags, a: Val, b: Val) -> Done
     let Some(Numbers { x, y }) = both_numbers(width, a, b) else {
         return POISON;
     };
-    if width as u128 <= y {
+    let Some(t) = amount(width, y) else {
         return POISON;
-    }
-    let amount = y as u32;
-    let broken = flags.exact && loses_ones(x, amount);
-    number_unless(broken, shifted_right_signed(width, x, amount))
+    };
+    let broken = flags.exact && loses_ones(x, t);
+    number_unless(broken, shifted_right_signed(width, x, t))
 }
