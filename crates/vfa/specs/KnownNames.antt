@@ -1,3 +1,4 @@
+-- helper: in no public contract
 -- The facts that a list of known bits holds: those of the name n stand at place n.
 use Rattle.std.specs.Prelude.{ℕ, List, slice_get}
 use Rattle.std.specs.Option.{option_map_or}

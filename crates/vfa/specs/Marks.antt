@@ -1,3 +1,4 @@
+-- helper: in no public contract
 -- Marks of names: for each name whether it is used.
 use Rattle.std.specs.Prelude.{Bool, true, List, slice_set, Option, Some, None}
 use Rattle.std.specs.List.{slice_index_or}

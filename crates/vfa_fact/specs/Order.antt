@@ -1,3 +1,4 @@
+-- helper: in no public contract
 -- Comparisons by what they ask of the order of two numbers. Each of the two orders goes up from a base round the circle
 -- of the 2 ^ w numbers: the unsigned order from 0, the signed one from the least signed value.
 use Rattle.std.specs.Prelude.{ℕ, ◌+◌, ◌-◌, ◌%◌, ◌^◌, Bool, not, nat_eq, nat_lt}

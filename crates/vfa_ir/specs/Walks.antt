@@ -44,9 +44,9 @@ results_in f b = elim (slice_get f.blocks b) [ None ↦ [] | Some block ↦ bloc
 -- the results of its phis and of its first n other instructions
 abbrev pub results_before : Function → ℕ → ℕ → List ℕ
 results_before f b n = elim (slice_get f.blocks b) [
-    | None ↦ []
-    | Some block ↦ map (λ p. p.result.0) block.phis ++ inst_ids (take n block.insts)
-  ]
+  | None ↦ []
+  | Some block ↦ map (λ p. p.result.0) block.phis ++ inst_ids (take n block.insts)
+]
 
 -- whether a name is defined on a walk that has passed these blocks: it is a parameter, or a result in one of them
 abbrev pub defined_over : Function → List ℕ → ℕ → Bool

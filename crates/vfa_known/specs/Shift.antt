@@ -1,3 +1,4 @@
+-- helper: in no public contract
 -- The three shifts as one family.
 use Rattle.std.specs.Prelude.{ℕ, ◌^◌, ◌-◌}
 use Rattle.vfa_word.specs.Operations.{shifted_left, shifted_right, shifted_right_signed}

@@ -1,3 +1,4 @@
+-- helper: in no public contract
 -- A piece of the program, as a piece of the definition.
 use Rattle.vfa_ir.specs.Tokens as tokens
 use Rattle.vfa_lex.specs.declared.pieces.Piece.{Piece}

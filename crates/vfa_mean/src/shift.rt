@@ -77,10 +77,7 @@ pub fn shift_left(width: u32, flags: Flags, a: Val, b: Val) -> Done
     let Some(t) = amount(width, y) else {
         return POISON;
     };
-    number_unless(
-        breaks_flags(width, flags, x, t),
-        shifted_left(width, x, t),
-    )
+    number_unless(breaks_flags(width, flags, x, t), shifted_left(width, x, t))
 }
 
 /// Whether a shift to the right drops a one.

@@ -1,3 +1,4 @@
+-- helper: in no public contract
 -- The names that values and blocks are shown by, found in one pass over what a function defines.
 use Rattle.std.specs.Prelude.{ℕ, ◌+◌, List, [], ◌∷◌, ◌++◌, if◌then◌else◌, unwrap_or, decimal}
 use Rattle.vfa_ir.specs.declared.functions.Function.{Function}

@@ -23,10 +23,14 @@ module _ (text : List ℕ) (tokens : List Token) where
 
   by_uses : (s : Sentence) → IsSentence (lexemes text tokens) s → too_many s ≡ None → duplicate_of s ≡ None → (o : Option (List ℕ)) → unknown_of s ≡ o →
       Accepted ⊎ Refused
-  by_uses s is kept distinct None known = inl (function_of s (tail_bytes text tokens s), lines_of s (map (λ t. t.line) tokens), record {
-    reads = record { sentence = s; is = is; distinct = distinct; known = known; function = refl; places = refl };
-    kept = kept;
-  })
+  by_uses s is kept distinct None known = inl (
+    function_of s (tail_bytes text tokens s),
+    lines_of s (map (λ t. t.line) tokens),
+    record {
+      reads = record { sentence = s; is = is; distinct = distinct; known = known; function = refl; places = refl };
+      kept = kept;
+    },
+  )
   by_uses s is kept distinct (Some name) unknown =
       inr (Outside.Unknown name, record { sentence = s; is = is; kept = kept; distinct = distinct; unknown = unknown })
 

@@ -157,9 +157,9 @@ or_none false = refl
 
 pub distinct_names : (names : List (List ℕ)) → (first_repeated [] names ≡ None) ↔ IsDistinct bytes_eq names
 distinct_names names = (
-    λ e. (once_found [] names e).distinct,
-    λ d. found_once [] names (record { distinct = d; fresh = fresh_of_none names }),
-  )
+  λ e. (once_found [] names e).distinct,
+  λ d. found_once [] names (record { distinct = d; fresh = fresh_of_none names }),
+)
 
 pub repeated_names : (names : List (List ℕ)) (name : List ℕ) → (first_repeated [] names ≡ Some name) ↔ IsFirstRepeated names name
 repeated_names names name = (there, back)
@@ -172,6 +172,7 @@ repeated_names names name = (there, back)
       distinct = a.once.distinct;
       again = among_contained name a.before (sym (or_none (is_among name a.before)) ∙ a.again);
     }
+
     back : IsFirstRepeated names name → first_repeated [] names ≡ Some name
     back f =
         ap (first_repeated []) f.parts
@@ -256,9 +257,9 @@ module _ (s : Sentence) where
 
   pub uses_defined : (unknown_of s ≡ None) ↔ All (IsDefined s) (uses s)
   uses_defined = (
-      λ e. All-from_recursion (IsDefined s) (uses s) (all_defined (uses s) e),
-      λ d. none_found (uses s) (recursion_from_All (IsDefined s) (uses s) d),
-    )
+    λ e. All-from_recursion (IsDefined s) (uses s) (all_defined (uses s) e),
+    λ d. none_found (uses s) (recursion_from_All (IsDefined s) (uses s) d),
+  )
 
   pub use_undefined : (name : List ℕ) → (unknown_of s ≡ Some name) ↔ IsFirstUndefined s name
   use_undefined name = (there, back)
@@ -273,6 +274,7 @@ module _ (s : Sentence) where
         is = a.is;
         name_is = a.name_is;
       }
+
       back : IsFirstUndefined s name → unknown_of s ≡ Some name
       back f =
           ap search_in f.parts

@@ -1,3 +1,4 @@
+-- helper: in no public contract
 -- Where a whole number stands to the range of a width, which is all that the code knows of one: below the range, in it
 -- with a number of the width, or above it. The range has 0, so a whole number outside it is below exactly where it is
 -- negative.

@@ -203,6 +203,50 @@ fn prints_other_functions(rt: HostRuntime) -> Result<(), Fail> {
     Ok(())
 }
 
+// Words and calls that LLVM has had since its release 20. No function with one of them is folded.
+#[test]
+fn prints_newer_words_and_calls(rt: HostRuntime) -> Result<(), Fail> {
+    let unchanged: [&[u8]; 4] = [
+        b"define i8 @f(i8 %x) {
+  %a = or disjoint i8 %x, -1
+  ret i8 %a
+}
+",
+        b"define i32 @low4(i32 %x, i8 noundef %y) {
+  %a = and i32 %x, 240
+  %b = or i32 %a, 3
+  %t = trunc i32 %b to i8
+  %n = and i8 %y, 15
+  %z = zext i8 %n to i32
+  %w = zext i8 %t to i32
+  %s = xor i32 %z, %w
+  ret i32 %s
+}
+",
+        b"define i8 @h(i8 %x) {
+  %a = and i8 %x, 15
+  %b = and i8 %a, -16
+  %r = call i8 @g(i8 %b)
+  %z = call i8 @g(i8 %r)
+  ret i8 %b
+}
+",
+        b"define i8 @w(i16 noundef %x) {
+  %a = zext nneg i16 %x to i32
+  %c = icmp samesign ult i32 %a, 7
+  %t = trunc nuw nsw i16 %x to i8
+  call void @tell(i1 %c)
+  %r = call noundef i8 @g(i8 noundef %t, i16 %x)
+  ret i8 %r
+}
+",
+    ];
+    for input in unchanged {
+        check_prints(&rt, input, input)?;
+    }
+    Ok(())
+}
+
 #[test]
 fn prints_what_clang_writes(rt: HostRuntime) -> Result<(), Fail> {
     let want = End {
