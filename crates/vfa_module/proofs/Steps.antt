@@ -19,23 +19,12 @@ pub header_step :
     spec.closing_of_define text (named || spec.is_global t.kind) (spec.parens_after parens (spec.front_byte text t)) rest
 header_step text named parens ts rest t e h = rw (e, h) refl
 
-pub header_end :
-    (text : List ℕ) (named : Bool) (parens : ℕ) (ts rest : List Token) (t : Token) → ts ≡ t ∷ rest →
-    spec.opens_body named parens (spec.front_byte text t) ≡ true →
-    spec.closing_of_define text named parens ts ≡ spec.closing_of_body text 0 rest
-header_end text named parens ts rest t e h = rw (e, h) refl
-
 pub body_step :
     (text : List ℕ) (braces : ℕ) (ts rest : List Token) (t : Token) → ts ≡ t ∷ rest →
     spec.closes_body braces (spec.front_byte text t) ≡ false →
     spec.closing_of_body text braces ts ≡
     spec.closing_of_body text (spec.braces_after braces (spec.front_byte text t)) rest
 body_step text braces ts rest t e h = rw (e, h) refl
-
-pub body_end :
-    (text : List ℕ) (braces : ℕ) (ts rest : List Token) (t : Token) → ts ≡ t ∷ rest →
-    spec.closes_body braces (spec.front_byte text t) ≡ true → spec.closing_of_body text braces ts ≡ Some t
-body_end text braces ts rest t e h = rw (e, h) refl
 
 -- the bytes of a line or a define are passed over
 defines-skip :
@@ -221,16 +210,6 @@ next_feeds text at inside more =
     let here : at + n - at ≡ n = omega arith in
     let one : line_feeds (take n (drop at text)) ≡ 1 = next_feeds_from (drop at text) (omega arith) in
     feeds_range text at (at + n) (omega arith) ∙ rw (here, one) refl
-
--- a brace that is found from a place on to which reading came is found from where reading began
-pub brace_sooner :
-    (text : List ℕ) (from line at on : ℕ) (t : Token) → from ≤ at →
-    on + line_feeds (take from text) ≡ line + line_feeds (take at text) → IsBrace text at on t →
-    IsBrace text from line t
-brace_sooner text from line at on t later counted b =
-    let behind : at ≤ t.start = b.after in
-    let lines : t.line + line_feeds (take at text) ≡ on + line_feeds (take t.start text) = b.lines in
-    record { after = omega arith; byte_is = b.byte_is; one = b.one; within = b.within; lines = omega arith }
 
 -- the brace itself ends no line
 pub brace_feeds :
