@@ -15,6 +15,7 @@ use vfa_ir::Flags;
 
 /// The amount of a shift, where it is below the width.
 fn amount(width: u32, y: u128) -> Option<u32>
+    requires { IsWidth width }
     ensures { MatchOption result (width ≤ y) (λ t. (t ≡ y) × (t < width)) }
 {
     let t = u32::try_from(y).ok()?;
@@ -77,10 +78,7 @@ pub fn shift_left(width: u32, flags: Flags, a: Val, b: Val) -> Done
     let Some(t) = amount(width, y) else {
         return POISON;
     };
-    number_unless(
-        breaks_flags(width, flags, x, t),
-        shifted_left(width, x, t),
-    )
+    number_unless(breaks_flags(width, flags, x, t), shifted_left(width, x, t))
 }
 
 /// Whether a shift to the right drops a one.
