@@ -15,6 +15,7 @@ use vfa_ir::Flags;
 
 /// The amount of a shift, where it is below the width.
 fn amount(width: u32, y: u128) -> Option<u32>
+    requires { IsWidth width }
     ensures { MatchOption result (width ≤ y) (λ t. (t ≡ y) × (t < width)) }
 {
     let t = u32::try_from(y).ok()?;
