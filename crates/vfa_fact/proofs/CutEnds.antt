@@ -79,7 +79,7 @@ divisor_at S y member = let parts = meet_parts (λ y. not (nat_eq y 0)) S y memb
 divisor_from : (S : ℕ → Bool) (y : ℕ) → y ≢ 0 → S y ≡ true → divisors_in S y ≡ true
 divisor_from S y some member = meet_from (λ y. not (nat_eq y 0)) S y (grind (arith, nat_tests)) member
 
-lt_pow : (n : ℕ) → n < 2 ^ n
+pub lt_pow : (n : ℕ) → n < 2 ^ n
 lt_pow zero = lit< tt
 lt_pow (suc n) = let less = lt_pow n in omega arith
 

@@ -8,13 +8,13 @@ use Rattle.vfa_wrap.specs.Ends.{shown_ends}
 use Rattle.vfa_wrap.specs.Rows.{AreAmounts}
 use Rattle.vfa_fact.specs.Views.{in_fact}
 use Rattle.vfa_fact.specs.Cuts.{AmountsOf, shown_amounts}
-use Rattle.vfa_fact.proofs.CutEnds.{below_width, amounts_none, amounts_row, amounts_fit, amounts_some, amounts_below, amounts_cover, some_shown, amount_ends, amount_ends_fit, none_under, none_over}
+use Rattle.vfa_fact.proofs.CutEnds.{lt_pow, amounts_none, amounts_row, amounts_fit, amounts_some, amounts_below, amounts_cover, some_shown, amount_ends, amount_ends_fit, none_under, none_over}
 use Rattle.vfa_fact.proofs.fact.Fact.amounts.Goals as goal
 
 pub ends_between-requires : goal.ends_between-requires
 ends_between-requires g c =
-    let one = c.args.self.now.known.width.least in
-    (lit< tt, (lit< tt, (pow_pos g.row.W, below_width g.row.W c.from.result (let last = c.from.ensures in omega arith))))
+    let last = c.from.ensures in let all = lt_pow g.row.W in
+    (lit< tt, (lit< tt, (pow_pos g.row.W, omega arith)))
 
 pub returns-in_err-ends-clause-exact : goal.returns-in_err-ends-clause-exact
 returns-in_err-ends-clause-exact g c = let fact = c.args.self.now in

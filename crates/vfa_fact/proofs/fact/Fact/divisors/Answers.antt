@@ -13,7 +13,8 @@ use Rattle.vfa_fact.proofs.fact.Fact.divisors.Goals as goal
 pub ends_between-requires : goal.ends_between-requires
 ends_between-requires g c =
     let one = c.args.self.now.known.width.least in let top = c.most.ensures in
-    (lit< tt, (lit< tt, (pow_below 0 g.row.W (omega arith), omega arith)))
+    let two = pow_below 0 g.row.W (omega arith) in
+    (lit< tt, (lit< tt, (omega arith, omega arith)))
 
 pub returns-clause-exact : goal.returns-clause-exact
 unfolding divisors_of
