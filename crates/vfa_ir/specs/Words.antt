@@ -1,4 +1,4 @@
--- The words of the language, each in the order of the LLVM Language Reference.
+-- The words of the language, with the sections of the LLVM Language Reference that have them.
 use Rattle.std.specs.Prelude.{ℕ, ◌++◌, List, [], ◌∷◌, Bool, false, ◌==◌, ◌&&◌, ◌||◌, Option, find, take, codes, decimal, bytes_eq}
 use Rattle.std.specs.List.{list_any, list_all}
 use Rattle.std.specs.Str.{byte}

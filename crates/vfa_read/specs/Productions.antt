@@ -1,4 +1,4 @@
--- The productions as readers, in the order of the LLVM Language Reference.
+-- The productions as readers, each beside its section of the LLVM Language Reference.
 use Rattle.std.specs.Prelude.{ℕ, Bool, true, false, ◌==◌, ◌||◌, List, [], ◌∷◌, ◌++◌, map, Option, Some, None, codes, bytes_eq}
 use Rattle.vfa_ir.specs.declared.operations.Cast.{Cast}
 use Rattle.vfa_ir.specs.declared.operations.Pred.{Pred}
