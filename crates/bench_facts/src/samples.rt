@@ -3,6 +3,7 @@
 ghost use Rattle.vfa_word.specs.Numbers.{IsWidth};
 
 use std::alloc::{AllocError, Global};
+use vfa_dom::Domain;
 use vfa_fact::{Cell, Fact, Test};
 use vfa_known::Known;
 use vfa_word::Word;
