@@ -3,12 +3,14 @@ use Rattle.std.proofs.Common.{◌≡◌, ℕ, zero, suc, ◌+◌, ◌-◌, ◌<�
 use Rattle.std.proofs.Math.Seq.{take-length}
 use Rattle.std.proofs.lemmas.List.{drop-drop, get_or-drop, length-take}
 use Rattle.std.proofs.lemmas.List.Sums.{prefix_len-le-length}
+use Rattle.std.specs.Char.{is_ascii_digit}
 use Rattle.std.specs.List.{AllByRecursion, prefix_len}
-use Rattle.vfa_ir.specs.Tokens.{AreInOrder, IsPlaced, Piece, gap, token, piece_of, is_blank, is_bracket, is_digit, is_letter, is_run_byte, is_mark, group, has_colon, line_feed, line_feeds, line_len, meta, name_len, named, or_label, quoted, quoted_len, run_len, run_of, first, line_behind, tokens_behind, tokens_from}
+use Rattle.std.specs.Str.{byte}
+use Rattle.vfa_ir.specs.Tokens.{AreInOrder, IsPlaced, Piece, gap, token, piece_of, is_blank, is_bracket, is_run_byte, is_mark, group, has_colon, line_feed, line_feeds, line_len, meta, name_len, after_sigil, or_label, quoted, quoted_len, run_len, run_of, first, line_after, tokens_after, tokens_from}
 use Rattle.vfa_ir.specs.declared.tokens.Token.{Token}
 use Rattle.vfa_ir.specs.declared.tokens.TokenKind.{TokenKind}
 
--- how many bytes a piece has behind its first
+-- how many bytes a piece has after its first
 abbrev pub more_of : Piece → ℕ
 more_of (gap more) = more
 more_of (token _ more) = more
@@ -16,7 +18,7 @@ more_of (token _ more) = more
 -- what still belongs to the piece before is passed over
 pub tokens-skip :
     (skip place line : ℕ) (bs : List ℕ) →
-    tokens_behind skip place line bs ≡ tokens_behind 0 (place + skip) (line + line_feeds (take skip bs)) (drop skip bs)
+    tokens_after skip place line bs ≡ tokens_after 0 (place + skip) (line + line_feeds (take skip bs)) (drop skip bs)
 tokens-skip zero place line [] = refl
 tokens-skip (suc skip) place line [] = refl
 tokens-skip zero place line (b ∷ bs) =
@@ -28,7 +30,8 @@ tokens-skip (suc skip) place line (b ∷ bs) =
     let on : line + line_feed b + line_feeds (take skip bs) ≡ line + (line_feed b + line_feeds (take skip bs)) = omega arith in
     tokens-skip skip (place + 1) (line + line_feed b) bs ∙ rw (at, on) refl
 
-pick : {X : Type 0} (P : X → Type 0) (b : Bool) (x y : X) → (b ≡ true → P x) → (b ≡ false → P y) → P (cond b x y)
+-- what holds of either outcome of a test holds of its outcome
+pub pick : {X : Type 0} (P : X → Type 0) (b : Bool) (x y : X) → (b ≡ true → P x) → (b ≡ false → P y) → P (cond b x y)
 pick P true x y p q = p refl
 pick P false x y p q = q refl
 
@@ -43,7 +46,7 @@ quoted_inside bs n h = grind arith
 name_inside : (bs : List ℕ) → name_len bs ≤ length bs
 name_inside [] = omega arith
 name_inside (b ∷ bs) =
-    pick (λ n. n ≤ length (b ∷ bs)) (b == 34) _ _
+    pick (λ n. n ≤ length (b ∷ bs)) (b == byte "\"") _ _
     (λ _. string_inside (quoted_len bs) refl)
     (λ _. prefix_len-le-length is_run_byte (b ∷ bs))
   where
@@ -55,9 +58,9 @@ name_inside (b ∷ bs) =
 abbrev pub EndsWithin : List ℕ → Piece → Type 0
 EndsWithin rest piece = more_of piece ≤ length rest
 
-named_ends : (kind : TokenKind) (rest : List ℕ) → EndsWithin rest (named kind rest)
-unfolding named
-named_ends kind rest = pick (EndsWithin rest) (name_len rest == 0) _ _ (λ _. omega arith) (λ _. name_inside rest)
+after_sigil_ends : (kind : TokenKind) (rest : List ℕ) → EndsWithin rest (after_sigil kind rest)
+unfolding after_sigil
+after_sigil_ends kind rest = pick (EndsWithin rest) (name_len rest == 0) _ _ (λ _. omega arith) (λ _. name_inside rest)
 
 meta_ends : (rest : List ℕ) → EndsWithin rest (meta rest)
 unfolding meta
@@ -67,8 +70,8 @@ meta_ends rest =
 group_ends : (rest : List ℕ) → EndsWithin rest (group rest)
 unfolding group
 group_ends rest =
-    pick (EndsWithin rest) (prefix_len is_digit rest == 0) _ _ (λ _. omega arith)
-    (λ _. prefix_len-le-length is_digit rest)
+    pick (EndsWithin rest) (prefix_len is_ascii_digit rest == 0) _ _ (λ _. omega arith)
+    (λ _. prefix_len-le-length is_ascii_digit rest)
 
 or_label_ends : (kind : TokenKind) (more : ℕ) (rest : List ℕ) → more ≤ length rest → EndsWithin rest (or_label kind more rest)
 unfolding or_label
@@ -96,12 +99,12 @@ unfolding piece_of
 piece_ends b rest =
     let P : Piece → Type 0 = EndsWithin rest in
     pick P (is_blank b) _ _ (λ _. omega arith)
-    (λ _. pick P (b == 59) _ _ (λ _. prefix_len-le-length _ rest)
-    (λ _. pick P (b == 37) _ _ (λ _. named_ends _ rest)
-    (λ _. pick P (b == 64) _ _ (λ _. named_ends _ rest)
-    (λ _. pick P (b == 33) _ _ (λ _. meta_ends rest)
-    (λ _. pick P (b == 35) _ _ (λ _. group_ends rest)
-    (λ _. pick P (b == 34) _ _ (λ _. quoted_ends rest)
+    (λ _. pick P (b == byte ";") _ _ (λ _. prefix_len-le-length _ rest)
+    (λ _. pick P (b == byte "%") _ _ (λ _. after_sigil_ends _ rest)
+    (λ _. pick P (b == byte "@") _ _ (λ _. after_sigil_ends _ rest)
+    (λ _. pick P (b == byte "!") _ _ (λ _. meta_ends rest)
+    (λ _. pick P (b == byte "#") _ _ (λ _. group_ends rest)
+    (λ _. pick P (b == byte "\"") _ _ (λ _. quoted_ends rest)
     (λ _. pick P (is_run_byte b) _ _ (λ _. run_ends b rest)
     (λ _. pick P (is_mark b) _ _ (λ _. omega arith) (λ _. omega arith)))))))))
 
@@ -111,7 +114,7 @@ StaysOnLine rest (gap more) = line_feeds (take more rest) ≡ 0
 StaysOnLine rest (token _ _) = Unit {0}
 
 line_len_cons :
-    (b : ℕ) (rest : List ℕ) (t : Bool) → (b == 10) ≡ t → line_feeds (take (line_len rest) rest) ≡ 0 →
+    (b : ℕ) (rest : List ℕ) (t : Bool) → (b == byte "\n") ≡ t → line_feeds (take (line_len rest) rest) ≡ 0 →
     line_feeds (take (cond (not t) (1 + line_len rest) 0) (b ∷ rest)) ≡ 0
 line_len_cons b rest true h left = refl
 line_len_cons b rest false h left =
@@ -121,20 +124,20 @@ line_len_cons b rest false h left =
 
 line_len_feeds : (rest : List ℕ) → line_feeds (take (line_len rest) rest) ≡ 0
 line_len_feeds [] = refl
-line_len_feeds (b ∷ rest) = line_len_cons b rest (b == 10) refl (line_len_feeds rest)
+line_len_feeds (b ∷ rest) = line_len_cons b rest (b == byte "\n") refl (line_len_feeds rest)
 
 pub gap_stays : (b : ℕ) (rest : List ℕ) → StaysOnLine rest (piece_of b rest)
-unfolding piece_of named meta group quoted or_label run_of
+unfolding piece_of after_sigil meta group quoted or_label run_of
 gap_stays b rest =
     let P : Piece → Type 0 = StaysOnLine rest in
     let is_token : (t : Bool) (k l : TokenKind) (m n : ℕ) → P (cond t (token k m) (token l n)) = λ t k l m n. pick P t _ _ (λ _. tt) (λ _. tt) in
     pick P (is_blank b) _ _ (λ _. refl)
-    (λ _. pick P (b == 59) _ _ (λ _. line_len_feeds rest)
-    (λ _. pick P (b == 37) _ _ (λ _. is_token _ _ _ _ _)
-    (λ _. pick P (b == 64) _ _ (λ _. is_token _ _ _ _ _)
-    (λ _. pick P (b == 33) _ _ (λ _. is_token _ _ _ _ _)
-    (λ _. pick P (b == 35) _ _ (λ _. is_token _ _ _ _ _)
-    (λ _. pick P (b == 34) _ _ (λ _. stays (quoted_len rest))
+    (λ _. pick P (b == byte ";") _ _ (λ _. line_len_feeds rest)
+    (λ _. pick P (b == byte "%") _ _ (λ _. is_token _ _ _ _ _)
+    (λ _. pick P (b == byte "@") _ _ (λ _. is_token _ _ _ _ _)
+    (λ _. pick P (b == byte "!") _ _ (λ _. is_token _ _ _ _ _)
+    (λ _. pick P (b == byte "#") _ _ (λ _. is_token _ _ _ _ _)
+    (λ _. pick P (b == byte "\"") _ _ (λ _. stays (quoted_len rest))
     (λ _. pick P (is_run_byte b) _ _ (λ _. is_token _ _ _ _ _)
     (λ _. pick P (is_mark b) _ _ (λ _. tt) (λ _. tt)))))))))
   where
@@ -144,36 +147,36 @@ gap_stays b rest =
     stays None = tt
     stays (Some n) = pick (StaysOnLine rest) (has_colon n rest) _ _ (λ _. tt) (λ _. tt)
 
--- reading goes on behind a gap
+-- reading goes on after a gap
 gap_cons :
     (b : ℕ) (rest : List ℕ) (place line more : ℕ) → piece_of b rest ≡ gap more →
-    tokens_behind 0 place line (b ∷ rest) ≡ tokens_behind 0 (place + (1 + more)) (line + line_feed b) (drop more rest)
+    tokens_after 0 place line (b ∷ rest) ≡ tokens_after 0 (place + (1 + more)) (line + line_feed b) (drop more rest)
 gap_cons b rest place line more h =
     let feeds : line_feeds (take more rest) ≡ 0 = (let P : Piece → Type 0 = StaysOnLine rest in subst P h (gap_stays b rest)) in
     let at : place + 1 + more ≡ place + (1 + more) = omega arith in
     let on : line + line_feed b + line_feeds (take more rest) ≡ line + line_feed b = omega arith in
-    rw (h, tokens_behind) (tokens-skip more (place + 1) (line + line_feed b) rest ∙ rw (at, on) refl)
+    rw (h, tokens_after) (tokens-skip more (place + 1) (line + line_feed b) rest ∙ rw (at, on) refl)
 
 pub gap_step :
     (bytes : List ℕ) (at line more : ℕ) → at < length bytes →
     piece_of (get_or bytes at 0) (drop (at + 1) bytes) ≡ gap more →
     tokens_from bytes at line ≡ tokens_from bytes (at + (1 + more)) (line + line_feed (get_or bytes at 0))
 gap_step bytes at line more inside h =
-    let front : drop at bytes ≡ get_or bytes at 0 ∷ drop (at + 1) bytes = rw add-one (drop-cons bytes at 0 inside) in
+    let begins : drop at bytes ≡ get_or bytes at 0 ∷ drop (at + 1) bytes = rw add-one (drop-cons bytes at 0 inside) in
     let left : drop more (drop (at + 1) bytes) ≡ drop (at + (1 + more)) bytes = drop-drop more (at + 1) bytes ∙ ap (λ n. drop n bytes) (omega arith) in
-    rw front (gap_cons _ _ at line more h ∙ rw left refl)
+    rw begins (gap_cons _ _ at line more h ∙ rw left refl)
 
--- a token comes, and reading goes on behind it
+-- a token comes, and reading goes on after it
 token_cons :
     (b : ℕ) (rest : List ℕ) (place line more : ℕ) (kind : TokenKind) → piece_of b rest ≡ token kind more →
-    tokens_behind 0 place line (b ∷ rest) ≡
+    tokens_after 0 place line (b ∷ rest) ≡
     (let t : Token = record { kind = kind; start = place; end = place + 1 + more; line = line } in
-    t ∷ tokens_behind 0 t.end (line + line_feeds (take (1 + more) (b ∷ rest))) (drop more rest))
+    t ∷ tokens_after 0 t.end (line + line_feeds (take (1 + more) (b ∷ rest))) (drop more rest))
 token_cons b rest place line more kind h =
     let one : 1 + more ≡ suc more = omega arith in
     let on : line + line_feed b + line_feeds (take more rest) ≡ line + (line_feed b + line_feeds (take more rest)) = omega arith in
     let t : Token = record { kind = kind; start = place; end = place + 1 + more; line = line } in
-    rw (h, tokens_behind, one) (ap (λ ts. t ∷ ts) (tokens-skip more (place + 1) (line + line_feed b) rest ∙ rw on refl))
+    rw (h, tokens_after, one) (ap (λ ts. t ∷ ts) (tokens-skip more (place + 1) (line + line_feed b) rest ∙ rw on refl))
 
 pub token_step :
     (bytes : List ℕ) (at line more : ℕ) (kind : TokenKind) → at < length bytes →
@@ -182,65 +185,65 @@ pub token_step :
     (let t : Token = record { kind = kind; start = at; end = at + 1 + more; line = line } in
     t ∷ tokens_from bytes t.end (line + line_feeds (take (1 + more) (drop at bytes))))
 token_step bytes at line more kind inside h =
-    let front : drop at bytes ≡ get_or bytes at 0 ∷ drop (at + 1) bytes = rw add-one (drop-cons bytes at 0 inside) in
+    let begins : drop at bytes ≡ get_or bytes at 0 ∷ drop (at + 1) bytes = rw add-one (drop-cons bytes at 0 inside) in
     let left : drop more (drop (at + 1) bytes) ≡ drop (at + 1 + more) bytes = drop-drop more (at + 1) bytes in
-    rw front (token_cons _ _ at line more kind h ∙ rw left refl)
+    rw begins (token_cons _ _ at line more kind h ∙ rw left refl)
 
 -- a token of the bytes, of which the first stands at the offset on the line
 record Stands (place line : ℕ) (bs : List ℕ) (t : Token) : Type 0 where
-  behind : place ≤ t.start
+  after : place ≤ t.start
   some : t.start < t.end
   within : t.end ≤ place + length bs
   lines : t.line ≡ line + line_feeds (take (t.start - place) bs)
   piece :
       piece_of (get_or bs (t.start - place) 0) (drop (suc (t.start - place)) bs) ≡ token t.kind (t.end - (t.start + 1))
 
-stands_behind :
+stands_after :
     (b : ℕ) (bs : List ℕ) (place line : ℕ) (t : Token) → Stands (place + 1) (line + line_feed b) bs t →
     Stands place line (b ∷ bs) t
-stands_behind b bs place line t s =
+stands_after b bs place line t s =
     let here : t.start - place ≡ suc (t.start - (place + 1)) = omega arith in
     record {
-      behind = omega arith;
+      after = omega arith;
       some = s.some;
       within = omega arith;
       lines = rw here (s.lines ∙ omega arith);
       piece = rw here s.piece;
     }
 
-all_behind :
+all_after :
     (b : ℕ) (bs : List ℕ) (place line : ℕ) (ts : List Token) →
     AllByRecursion (Stands (place + 1) (line + line_feed b) bs) ts → AllByRecursion (Stands place line (b ∷ bs)) ts
-all_behind b bs place line [] s = tt
-all_behind b bs place line (t ∷ ts) s = (stands_behind b bs place line t s.0, all_behind b bs place line ts s.1)
+all_after b bs place line [] s = tt
+all_after b bs place line (t ∷ ts) s = (stands_after b bs place line t s.0, all_after b bs place line ts s.1)
 
-all_stand : (skip place line : ℕ) (bs : List ℕ) → AllByRecursion (Stands place line bs) (tokens_behind skip place line bs)
+all_stand : (skip place line : ℕ) (bs : List ℕ) → AllByRecursion (Stands place line bs) (tokens_after skip place line bs)
 all_stand skip place line [] = tt
-all_stand (suc skip) place line (b ∷ bs) = all_behind b bs place line _ (all_stand skip (place + 1) (line + line_feed b) bs)
+all_stand (suc skip) place line (b ∷ bs) = all_after b bs place line _ (all_stand skip (place + 1) (line + line_feed b) bs)
 all_stand zero place line (b ∷ bs) =
     by_piece (piece_of b bs) refl (piece_ends b bs)
-    (λ more. all_behind b bs place line _ (all_stand more (place + 1) (line + line_feed b) bs))
+    (λ more. all_after b bs place line _ (all_stand more (place + 1) (line + line_feed b) bs))
   where
     by_piece :
         (p : Piece) → piece_of b bs ≡ p → more_of p ≤ length bs →
-        ((more : ℕ) → AllByRecursion (Stands place line (b ∷ bs)) (tokens_behind more (place + 1) (line + line_feed b) bs)) →
+        ((more : ℕ) → AllByRecursion (Stands place line (b ∷ bs)) (tokens_after more (place + 1) (line + line_feed b) bs)) →
         AllByRecursion (Stands place line (b ∷ bs))
         (elim p [
-          | gap more ↦ tokens_behind more (place + 1) (line + line_feed b) bs
+          | gap more ↦ tokens_after more (place + 1) (line + line_feed b) bs
           | token kind more ↦
               record { kind = kind; start = place; end = place + 1 + more; line = line }
-              ∷ tokens_behind more (place + 1) (line + line_feed b) bs
+              ∷ tokens_after more (place + 1) (line + line_feed b) bs
         ])
     by_piece (gap more) is inside left = left more
     by_piece (token kind more) is inside left =
-        let zero_behind : place - place ≡ 0 = omega arith in
+        let none_before : place - place ≡ 0 = omega arith in
         let long : place + 1 + more - (place + 1) ≡ more = omega arith in (
           record {
-            behind = omega arith;
+            after = omega arith;
             some = omega arith;
             within = omega arith;
-            lines = rw zero_behind (omega arith);
-            piece = rw (zero_behind, long) is;
+            lines = rw none_before (omega arith);
+            piece = rw (none_before, long) is;
           },
           left more,
         )
@@ -251,11 +254,11 @@ all_placed :
 all_placed bytes from line inside [] s = tt
 all_placed bytes from line inside (t ∷ ts) s =
     let long : length (drop from bytes) ≡ length bytes - from = length-drop from bytes in
-    let behind : from ≤ t.start = s.0.behind in
+    let after : from ≤ t.start = s.0.after in
     let at : from + (t.start - from) ≡ t.start = omega arith in
     let next : from + suc (t.start - from) ≡ t.start + 1 = omega arith in (
       record {
-        behind = behind;
+        after = after;
         some = s.0.some;
         within = omega arith;
         lines = s.0.lines;
@@ -270,12 +273,12 @@ pub tokens_placed :
     AllByRecursion (IsPlaced bytes from line) (tokens_from bytes from line)
 tokens_placed bytes from line inside = all_placed bytes from line inside _ (all_stand 0 from line (drop from bytes))
 
--- and one behind the other
+-- and one after the other
 in_order_sooner : (from to : ℕ) (ts : List Token) → from ≤ to → AreInOrder to ts → AreInOrder from ts
 in_order_sooner from to [] h s = tt
 in_order_sooner from to (t ∷ ts) h s = (omega arith, s.1)
 
-in_order : (skip place line : ℕ) (bs : List ℕ) → AreInOrder (place + skip) (tokens_behind skip place line bs)
+in_order : (skip place line : ℕ) (bs : List ℕ) → AreInOrder (place + skip) (tokens_after skip place line bs)
 in_order skip place line [] = tt
 in_order (suc skip) place line (b ∷ bs) =
     in_order_sooner _ (place + 1 + skip) _ (omega arith) (in_order skip (place + 1) (line + line_feed b) bs)
@@ -284,13 +287,13 @@ in_order zero place line (b ∷ bs) =
   where
     by_piece :
         (p : Piece) →
-        ((more : ℕ) → AreInOrder (place + 1 + more) (tokens_behind more (place + 1) (line + line_feed b) bs)) →
+        ((more : ℕ) → AreInOrder (place + 1 + more) (tokens_after more (place + 1) (line + line_feed b) bs)) →
         AreInOrder (place + 0)
         (elim p [
-          | gap more ↦ tokens_behind more (place + 1) (line + line_feed b) bs
+          | gap more ↦ tokens_after more (place + 1) (line + line_feed b) bs
           | token kind more ↦
               record { kind = kind; start = place; end = place + 1 + more; line = line }
-              ∷ tokens_behind more (place + 1) (line + line_feed b) bs
+              ∷ tokens_after more (place + 1) (line + line_feed b) bs
         ])
     by_piece (gap more) left = in_order_sooner _ (place + 1 + more) _ (omega arith) (left more)
     by_piece (token kind more) left = (omega arith, left more)
@@ -305,10 +308,10 @@ pub token_inside :
     (b : ℕ) (rest : List ℕ) (kind : TokenKind) (more : ℕ) → piece_of b rest ≡ token kind more → more ≤ length rest
 token_inside b rest kind more h = let P : Piece → Type 0 = EndsWithin rest in subst P h (piece_ends b rest)
 
--- behind its first token a text is read as from there on
+-- after its first token a text is read as from there on
 rest_of : (place : ℕ) (bs : List ℕ) (t : Token) → List Token
 rest_of place bs t =
-    tokens_behind 0 t.end (t.line + line_feeds (take (t.end - t.start) (drop (t.start - place) bs))) (drop (t.end - place) bs)
+    tokens_after 0 t.end (t.line + line_feeds (take (t.end - t.start) (drop (t.start - place) bs))) (drop (t.end - place) bs)
 
 rest_later :
     (b : ℕ) (place : ℕ) (bs : List ℕ) (t : Token) → place + 1 ≤ t.start → t.start < t.end →
@@ -324,17 +327,17 @@ first_passes P [] t h all = absurd (cc)
 first_passes P (u ∷ ts) t h all = let same : u ≡ t = (cc) in subst P same all.0
 
 rest_after :
-    (b skip place line : ℕ) (bs : List ℕ) (t : Token) → first (tokens_behind skip (place + 1) line bs) ≡ Some t →
-    tokens_behind skip (place + 1) line bs ≡ t ∷ rest_of (place + 1) bs t →
-    tokens_behind skip (place + 1) line bs ≡ t ∷ rest_of place (b ∷ bs) t
+    (b skip place line : ℕ) (bs : List ℕ) (t : Token) → first (tokens_after skip (place + 1) line bs) ≡ Some t →
+    tokens_after skip (place + 1) line bs ≡ t ∷ rest_of (place + 1) bs t →
+    tokens_after skip (place + 1) line bs ≡ t ∷ rest_of place (b ∷ bs) t
 rest_after b skip place line bs t h e =
     let s : Stands (place + 1) line bs t = first_passes _ _ t h (all_stand skip (place + 1) line bs) in
-    e ∙ ap (λ ts. t ∷ ts) (rest_later b place bs t s.behind s.some)
+    e ∙ ap (λ ts. t ∷ ts) (rest_later b place bs t s.after s.some)
 
 rest_here :
     (b place line more : ℕ) (bs : List ℕ) (kind : TokenKind) →
     (let t : Token = record { kind = kind; start = place; end = place + 1 + more; line = line } in
-    tokens_behind more (place + 1) (line + line_feed b) bs ≡ rest_of place (b ∷ bs) t)
+    tokens_after more (place + 1) (line + line_feed b) bs ≡ rest_of place (b ∷ bs) t)
 unfolding rest_of
 rest_here b place line more bs kind =
     let start : place - place ≡ 0 = omega arith in
@@ -342,49 +345,49 @@ rest_here b place line more bs kind =
     let on : line + line_feed b + line_feeds (take more bs) ≡ line + (line_feed b + line_feeds (take more bs)) = omega arith in
     tokens-skip more (place + 1) (line + line_feed b) bs ∙ rw (start, end, on) refl
 
-rest_behind :
-    (skip place line : ℕ) (bs : List ℕ) (t : Token) → first (tokens_behind skip place line bs) ≡ Some t →
-    tokens_behind skip place line bs ≡ t ∷ rest_of place bs t
-rest_behind skip place line [] t h = cc
-rest_behind (suc skip) place line (b ∷ bs) t h =
-    rest_after b skip place (line + line_feed b) bs t h (rest_behind skip (place + 1) (line + line_feed b) bs t h)
-rest_behind zero place line (b ∷ bs) t h =
-    by_piece (piece_of b bs) h (λ more. rest_behind more (place + 1) (line + line_feed b) bs t)
+rest_of_first :
+    (skip place line : ℕ) (bs : List ℕ) (t : Token) → first (tokens_after skip place line bs) ≡ Some t →
+    tokens_after skip place line bs ≡ t ∷ rest_of place bs t
+rest_of_first skip place line [] t h = cc
+rest_of_first (suc skip) place line (b ∷ bs) t h =
+    rest_after b skip place (line + line_feed b) bs t h (rest_of_first skip (place + 1) (line + line_feed b) bs t h)
+rest_of_first zero place line (b ∷ bs) t h =
+    by_piece (piece_of b bs) h (λ more. rest_of_first more (place + 1) (line + line_feed b) bs t)
   where
     by_piece :
         (p : Piece) →
         first (elim p [
-          | gap more ↦ tokens_behind more (place + 1) (line + line_feed b) bs
+          | gap more ↦ tokens_after more (place + 1) (line + line_feed b) bs
           | token kind more ↦
               record { kind = kind; start = place; end = place + 1 + more; line = line }
-              ∷ tokens_behind more (place + 1) (line + line_feed b) bs
+              ∷ tokens_after more (place + 1) (line + line_feed b) bs
         ]) ≡ Some t →
-        ((more : ℕ) → first (tokens_behind more (place + 1) (line + line_feed b) bs) ≡ Some t →
-        tokens_behind more (place + 1) (line + line_feed b) bs ≡ t ∷ rest_of (place + 1) bs t) →
+        ((more : ℕ) → first (tokens_after more (place + 1) (line + line_feed b) bs) ≡ Some t →
+        tokens_after more (place + 1) (line + line_feed b) bs ≡ t ∷ rest_of (place + 1) bs t) →
         (elim p [
-          | gap more ↦ tokens_behind more (place + 1) (line + line_feed b) bs
+          | gap more ↦ tokens_after more (place + 1) (line + line_feed b) bs
           | token kind more ↦
               record { kind = kind; start = place; end = place + 1 + more; line = line }
-              ∷ tokens_behind more (place + 1) (line + line_feed b) bs
+              ∷ tokens_after more (place + 1) (line + line_feed b) bs
         ]) ≡ t ∷ rest_of place (b ∷ bs) t
     by_piece (gap more) f left = rest_after b more place (line + line_feed b) bs t f (left more f)
     by_piece (token kind more) f left =
         let here : Token = record { kind = kind; start = place; end = place + 1 + more; line = line } in
         let same : here ≡ t = (cc) in
-        let P : Token → Type 0 = λ u. (here ∷ tokens_behind more (place + 1) (line + line_feed b) bs) ≡ (u ∷ rest_of place (b ∷ bs) u) in
+        let P : Token → Type 0 = λ u. (here ∷ tokens_after more (place + 1) (line + line_feed b) bs) ≡ (u ∷ rest_of place (b ∷ bs) u) in
         subst P same (ap (λ ts. here ∷ ts) (rest_here b place line more bs kind))
 
 pub tokens_rest :
     (bytes : List ℕ) (from line : ℕ) (t : Token) → from ≤ length bytes → first (tokens_from bytes from line) ≡ Some t →
-    tokens_from bytes from line ≡ t ∷ tokens_from bytes t.end (line_behind bytes t)
+    tokens_from bytes from line ≡ t ∷ tokens_from bytes t.end (line_after bytes t)
 unfolding rest_of
 tokens_rest bytes from line t inside h =
     let s : IsPlaced bytes from line t = first_passes _ _ t h (tokens_placed bytes from line inside) in
-    let behind : from ≤ t.start = s.behind in
+    let after : from ≤ t.start = s.after in
     let some : t.start < t.end = s.some in
     let start : from + (t.start - from) ≡ t.start = omega arith in
     let end : from + (t.end - from) ≡ t.end = omega arith in
-    rest_behind 0 from line (drop from bytes) t h ∙ rw (drop-drop, drop-drop, start, end) refl
+    rest_of_first 0 from line (drop from bytes) t h ∙ rw (drop-drop, drop-drop, start, end) refl
 
 pub first_placed :
     (bytes : List ℕ) (from line : ℕ) (t : Token) → from ≤ length bytes → first (tokens_from bytes from line) ≡ Some t →
@@ -395,7 +398,7 @@ pub feeds_bound : (bs : List ℕ) → line_feeds bs ≤ length bs
 feeds_bound [] = omega arith
 feeds_bound (b ∷ bs) =
     let left : line_feeds bs ≤ length bs = feeds_bound bs in
-    pick (λ n. n + line_feeds bs ≤ length (b ∷ bs)) (b == 10) 1 0 (λ _. omega arith) (λ _. omega arith)
+    pick (λ n. n + line_feeds bs ≤ length (b ∷ bs)) (b == byte "\n") 1 0 (λ _. omega arith) (λ _. omega arith)
 
 range_bound : (bytes : List ℕ) (from to : ℕ) → line_feeds (take (to - from) (drop from bytes)) ≤ to - from
 range_bound bytes from to =
@@ -410,13 +413,13 @@ placed_line bytes from line t p =
     let lines : t.line ≡ line + line_feeds (take (t.start - from) (drop from bytes)) = p.lines in
     omega arith
 
-pub behind_line :
+pub line_after_most :
     (bytes : List ℕ) (from line : ℕ) (t : Token) → IsPlaced bytes from line t →
-    line_behind bytes t ≤ line + (t.end - from)
-behind_line bytes from line t p =
+    line_after bytes t ≤ line + (t.end - from)
+line_after_most bytes from line t p =
     let on : t.line ≤ line + (t.start - from) = placed_line bytes from line t p in
     let feeds : line_feeds (take (t.end - t.start) (drop t.start bytes)) ≤ t.end - t.start = range_bound bytes t.start t.end in
-    let behind : from ≤ t.start = p.behind in
+    let after : from ≤ t.start = p.after in
     let some : t.start < t.end = p.some in
     omega arith
 
@@ -461,11 +464,11 @@ no_first (t ∷ ts) h = cc
 
 -- a closing brace is a token of its own
 pub brace_end :
-    (bytes : List ℕ) (from line : ℕ) (t : Token) → IsPlaced bytes from line t → get_or bytes t.start 0 ≡ 125 →
+    (bytes : List ℕ) (from line : ℕ) (t : Token) → IsPlaced bytes from line t → get_or bytes t.start 0 ≡ byte "}" →
     t.end ≡ t.start + 1
-unfolding piece_of is_blank is_run_byte is_letter is_digit is_mark is_bracket
+unfolding piece_of is_blank is_run_byte is_mark is_bracket
 brace_end bytes from line t p brace =
-    let piece : piece_of 125 (drop (t.start + 1) bytes) ≡ token t.kind (t.end - (t.start + 1)) = (rw brace at p.piece) in
+    let piece : piece_of (byte "}") (drop (t.start + 1) bytes) ≡ token t.kind (t.end - (t.start + 1)) = (rw brace at p.piece) in
     let none : 0 ≡ t.end - (t.start + 1) = ap more_of piece in
     let some : t.start < t.end = p.some in
     omega arith
@@ -492,14 +495,14 @@ pub placed_feeds :
     t.line + line_feeds (take from bytes) ≡ line + line_feeds (take t.start bytes)
 placed_feeds bytes from line t p =
     let feeds : line_feeds (take t.start bytes) ≡ line_feeds (take from bytes) + line_feeds (take (t.start - from) (drop from bytes)) =
-    feeds_range bytes from t.start p.behind in
+    feeds_range bytes from t.start p.after in
     let lines : t.line ≡ line + line_feeds (take (t.start - from) (drop from bytes)) = p.lines in
     omega arith
 
-pub behind_feeds :
+pub line_after_feeds :
     (bytes : List ℕ) (from line : ℕ) (t : Token) → IsPlaced bytes from line t →
-    line_behind bytes t + line_feeds (take from bytes) ≡ line + line_feeds (take t.end bytes)
-behind_feeds bytes from line t p =
+    line_after bytes t + line_feeds (take from bytes) ≡ line + line_feeds (take t.end bytes)
+line_after_feeds bytes from line t p =
     let some : t.start < t.end = p.some in
     let before : t.line + line_feeds (take from bytes) ≡ line + line_feeds (take t.start bytes) = placed_feeds bytes from line t p in
     let feeds : line_feeds (take t.end bytes) ≡ line_feeds (take t.start bytes) + line_feeds (take (t.end - t.start) (drop t.start bytes)) =

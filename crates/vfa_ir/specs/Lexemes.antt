@@ -11,10 +11,10 @@ pub data Lexeme : Type 0 where
   nameless_local : Lexeme
   nameless_global : Lexeme
   nameless_label : Lexeme
-  -- `!run` and `#digits`, by what stands behind the sign
+  -- `!run` and `#digits`, by what stands after the sign
   metadata : List ℕ → Lexeme
   group : List ℕ → Lexeme
-  -- digits, perhaps behind a `-`
+  -- digits, perhaps after a `-`
   number : List ℕ → Lexeme
   word : List ℕ → Lexeme
   string : Lexeme

@@ -2,6 +2,7 @@ pub mod Defined
 pub mod DefinedNames
 pub mod Grammar
 pub mod Lexemes
+pub mod Limits
 pub mod Names
 pub mod Operands
 pub mod PhisFit

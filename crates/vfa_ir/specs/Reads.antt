@@ -9,6 +9,7 @@ use Rattle.vfa_ir.specs.declared.syntax.TerminatorKind.{TerminatorKind}
 use Rattle.vfa_ir.specs.declared.tokens.Token.{Token}
 use Rattle.vfa_ir.specs.Grammar.{FitsSentence}
 use Rattle.vfa_ir.specs.Lexemes.{Lexeme}
+use Rattle.vfa_ir.specs.Limits.{most_blocks, most_cases, most_names}
 use Rattle.vfa_ir.specs.DefinedNames.{value_names, duplicate_of, unknown_of}
 use Rattle.vfa_ir.specs.Resolution.{function_of}
 use Rattle.vfa_ir.specs.Sentence.{Sentence}
@@ -46,23 +47,23 @@ pub record Fit (f : Function) : Type 0 where
   pub lines : Lines
   pub reads : Reads text f lines
 
--- The limits of the profile: parameters and results, then blocks, then the cases of each switch.
+-- The first limit that is passed: of parameters and results, then of blocks, then of the cases of each switch.
 abbrev pub cases_of : TerminatorKind → ℕ
 cases_of (TerminatorKind.Switch _ _ _ cases) = length cases
 cases_of _ = 0
 
 abbrev pub too_many : Sentence → Option Kind
 too_many s =
-    if nat_lt 4096 (length (value_names s)) then Some Kind.Names
-    else if nat_lt 1024 (length s.blocks) then Some Kind.Blocks
-    else if list_any (λ b. nat_lt 1024 (cases_of b.terminator.kind)) s.blocks then Some Kind.Cases
+    if nat_lt most_names (length (value_names s)) then Some Kind.Names
+    else if nat_lt most_blocks (length s.blocks) then Some Kind.Blocks
+    else if list_any (λ b. nat_lt most_cases (cases_of b.terminator.kind)) s.blocks then Some Kind.Cases
     else None
 
 -- some sentence begins with these lexemes
-pub record BeginsSentence (front : List Lexeme) : Type 0 where
+pub record BeginsSentence (prefix : List Lexeme) : Type 0 where
   pub sentence : Sentence
   pub rest : List Lexeme
-  pub is : IsSentence (front ++ rest) sentence
+  pub is : IsSentence (prefix ++ rest) sentence
 
 -- The line at which a text stops being a sentence: that of the first token at which the tokens so far begin none; or,
 -- where all tokens together begin one but are none, that of the last token, or 1 where there is no token.

@@ -1,5 +1,6 @@
 -- The lexemes of a text: what the grammar sees of its tokens.
 use Rattle.std.specs.Prelude.{ℕ, ◌-◌, List, [], ◌∷◌, length, map, take, drop, get_or, slice_range, Option, Some, None, ◌==◌, if◌then◌else◌}
+use Rattle.std.specs.Str.{byte}
 use Rattle.vfa_ir.specs.declared.tokens.Token.{Token}
 use Rattle.vfa_ir.specs.declared.tokens.TokenKind.{TokenKind}
 use Rattle.vfa_ir.specs.declared.tokens.TokenKind.TheVariants as Kind
@@ -15,7 +16,7 @@ quoted_name (c ∷ cs) = if is_digits (c ∷ cs) then None else Some (c ∷ cs)
 
 abbrev pub written_name : List ℕ → Option (List ℕ)
 written_name [] = None
-written_name (c ∷ cs) = if c == 34 then quoted_name (decoded (take (length cs - 1) cs)) else Some (c ∷ cs)
+written_name (c ∷ cs) = if c == byte "\"" then quoted_name (decoded (take (length cs - 1) cs)) else Some (c ∷ cs)
 
 abbrev pub named : (List ℕ → Lexeme) → Lexeme → Option (List ℕ) → Lexeme
 named kind nameless None = nameless

@@ -3,15 +3,12 @@
 --
 -- In `entry: br i1 %c, label %a, label %b`, `a: br label %b`, the walks to b are entry, b and entry, a, b: what a alone
 -- defines is not defined on every walk to b.
-use Rattle.std.specs.Prelude.{◌≡◌, ℕ, Bool, ◌||◌, IsTrue, nat_eq, List, [], ◌∷◌, ◌++◌, map, take, Some, None, slice_get}
+use Rattle.std.specs.Prelude.{◌≡◌, ℕ, Bool, ◌||◌, IsTrue, List, [], ◌∷◌, ◌++◌, map, take, Some, None, slice_get}
 use Rattle.std.specs.List.{list_any}
 use Rattle.vfa_ir.specs.declared.functions.Function.{Function}
 use Rattle.vfa_ir.specs.PhisFit.{targets}
 use Rattle.vfa_ir.specs.Printable.{block_ids, inst_ids}
-
--- whether the number is one of these
-abbrev pub is_in : ℕ → List ℕ → Bool
-is_in n numbers = list_any (nat_eq n) numbers
+pub use Rattle.vfa_ir.specs.Words.{is_in}
 
 -- the blocks that the edges of a block lead to, one for each edge, as written
 abbrev pub successors : Function → ℕ → List ℕ

@@ -1,5 +1,5 @@
 -- The words of the language, with the sections of the LLVM Language Reference that have them.
-use Rattle.std.specs.Prelude.{ℕ, ◌++◌, List, [], ◌∷◌, Bool, false, ◌==◌, ◌&&◌, ◌||◌, Option, find, take, codes, decimal, bytes_eq}
+use Rattle.std.specs.Prelude.{ℕ, ◌++◌, List, [], ◌∷◌, Bool, false, ◌==◌, ◌&&◌, ◌||◌, Option, find, nat_eq, take, codes, decimal, bytes_eq}
 use Rattle.std.specs.List.{list_any, list_all}
 use Rattle.std.specs.Str.{byte}
 use Rattle.std.specs.Char.{is_ascii_digit}
@@ -9,6 +9,10 @@ use Rattle.vfa_ir.specs.declared.operations.Pred.{Pred}
 use Rattle.vfa_ir.specs.declared.operations.Fun1.{Fun1}
 use Rattle.vfa_ir.specs.declared.operations.Fun2.{Fun2}
 use Rattle.vfa_ir.specs.declared.operations.Over.{Over}
+
+-- whether the number is one of these
+abbrev pub is_in : ℕ → List ℕ → Bool
+is_in n numbers = list_any (nat_eq n) numbers
 
 -- whether the text is one of these
 abbrev pub is_among : List ℕ → List (List ℕ) → Bool

@@ -105,7 +105,7 @@ pub struct CallArg {
 /// A call of a function that is no intrinsic with a meaning of its own (Language Reference, "call Instruction").
 #[derive(Debug, Drop)]
 pub struct CallOp {
-    /// The name behind `@`.
+    /// The name after `@`.
     pub callee: Name,
     /// The words between `call` and the result's type, as written.
     pub words: Items<Name>,
@@ -116,7 +116,7 @@ pub struct CallOp {
 /// A function. Its values are numbered in text order: the parameters, then the results block by block.
 #[derive(Debug, Drop)]
 pub struct Function {
-    /// The name behind `@`.
+    /// The name after `@`.
     pub name: Name,
     /// The words between `define` and the result's type, as written.
     pub lead: Items<Name>,

@@ -3,6 +3,7 @@
 
 mod bytes;
 mod functions;
+mod limits;
 mod lists;
 mod names;
 mod numbering;
@@ -15,8 +16,9 @@ mod tests;
 mod tokens;
 mod words;
 
-pub use bytes::{is_blank, is_digit, is_run_byte, push_decimal};
+pub use bytes::{all_digits, is_blank, is_digits, is_number, is_run_byte, push_decimal};
 pub use functions::{Block, CallArg, CallOp, Function, Inst, Lines, Param, Phi, Term, Value};
+pub use limits::{MOST_BLOCKS, MOST_BYTES, MOST_CASES, MOST_NAMES};
 pub use lists::{Few, Items};
 pub use names::Name;
 pub use numbering::{Local, locals, shown_block, shown_value};

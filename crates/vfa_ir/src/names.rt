@@ -1,7 +1,8 @@
 //! Names as bytes.
 
-ghost use Rattle.std.specs.Prelude.{◌≡◌, ◌↔◌, ℕ, List, IfOk, IsTrue};
+ghost use Rattle.std.specs.Prelude.{◌≡◌, ◌↔◌, ℕ, List, decimal, IfOk, IsTrue};
 
+use crate::bytes::push_decimal;
 use std::alloc::{AllocError, Global};
 use std::marker::Model;
 
@@ -35,6 +36,15 @@ impl Name {
         ensures { IfOk result (λ n. n ≡ bytes.now) }
     {
         Ok(Name(Vec::from_slice(alloc, bytes)?))
+    }
+
+    /// The name that a number is: its decimal digits.
+    pub fn decimal(alloc: Global, number: usize) -> Result<Name, AllocError>
+        ensures { IfOk result (λ n. n ≡ decimal number) }
+    {
+        let mut text = Vec::new(alloc);
+        push_decimal(alloc, &mut text, number as u128)?;
+        Ok(Name(text))
     }
 
     /// Whether both names have the same bytes.

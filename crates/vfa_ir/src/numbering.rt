@@ -1,6 +1,6 @@
 //! The numbers of the values and blocks that have no name.
 
-ghost use Rattle.std.specs.Prelude.{◌≡◌, ◌<◌, ◌++◌, length, map, decimal, IfOk};
+ghost use Rattle.std.specs.Prelude.{◌≡◌, ◌<◌, ◌++◌, length, map, IfOk};
 ghost use Rattle.vfa_ir.specs.Shown.{is_unnamed, locals_of, locals_of_block, number_of, results_of, same_local, shown_block_name, shown_value_name};
 
 use crate::functions::{Block, Function, Inst};
@@ -90,12 +90,6 @@ fn number(alloc: Global, f: &Function, local: Local) -> Result<usize, AllocError
     )
 }
 
-fn digits(alloc: Global, n: usize) -> Result<Name, AllocError>
-    ensures { IfOk result (λ name. name ≡ decimal n) }
-{
-    Ok(Name(format!(in alloc; "{n}")?.into_bytes()))
-}
-
 /// The bytes that a value is shown by, without sigil, quotes or escapes: its name, or the decimal digits of its number
 /// where it has none. The values and blocks without a name are numbered from 0 in text order (LLVM Language Reference,
 /// "Identifiers"). The id is one of the function.
@@ -107,7 +101,7 @@ pub fn shown_value(alloc: Global, f: &Function, v: ValueId) -> Result<Name, Allo
 {
     match &f.values.as_slice()[v.0 as usize].name {
         Some(name) => name.copied(alloc),
-        None => digits(alloc, number(alloc, f, Local::Value(v.0 as usize))?),
+        None => Name::decimal(alloc, number(alloc, f, Local::Value(v.0 as usize))?),
     }
 }
 
@@ -118,6 +112,6 @@ pub fn shown_block(alloc: Global, f: &Function, b: BlockId) -> Result<Name, Allo
 {
     match &f.blocks.as_slice()[b.0 as usize].name {
         Some(name) => name.copied(alloc),
-        None => digits(alloc, number(alloc, f, Local::Block(b.0 as usize))?),
+        None => Name::decimal(alloc, number(alloc, f, Local::Block(b.0 as usize))?),
     }
 }

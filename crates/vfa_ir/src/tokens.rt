@@ -32,7 +32,7 @@ pub struct Token {
     pub kind: TokenKind,
     /// The offset of its first byte.
     pub start: usize,
-    /// The offset behind its last byte.
+    /// The offset after its last byte.
     pub end: usize,
     /// The line of its first byte, counted from 1.
     pub line: u32,
