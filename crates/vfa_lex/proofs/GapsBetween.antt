@@ -1,35 +1,32 @@
 -- The tokens of a text, and the white space and comments between them, are all of it.
-use Rattle.std.proofs.Common.{◌≡◌, ℕ, zero, suc, ◌+◌, ◌-◌, ◌<◌, ◌≤◌, ◌==◌, Bool, true, false, cond, List, [], ◌∷◌, length, drop, get_or, Option, Some, None, inl, inr, refl, ap, add-one, arith, drop-cons, length-drop}
-use Rattle.vfa_ir.proofs.Reading.{more_of, piece_ends}
-use Rattle.vfa_ir.specs.Tokens.{Piece, gap, token, piece_of, is_blank, is_mark, is_run_byte, group, has_colon, line_feed, meta, named, or_label, quoted, quoted_len, run_of, tokens_behind, tokens_from}
+use Rattle.std.proofs.Common.{◌≡◌, ℕ, zero, suc, ◌+◌, ◌-◌, ◌<◌, ◌≤◌, ◌==◌, Bool, true, cond, List, [], ◌∷◌, length, drop, get_or, Option, Some, None, inl, inr, refl, ap, add-one, arith, drop-cons, length-drop}
+use Rattle.std.specs.Str.{byte}
+use Rattle.vfa_ir.proofs.Reading.{more_of, pick, piece_ends}
+use Rattle.vfa_ir.specs.Tokens.{Piece, gap, token, piece_of, is_blank, is_mark, is_run_byte, group, has_colon, line_feed, meta, after_sigil, or_label, quoted, quoted_len, run_of, tokens_after, tokens_from}
 use Rattle.vfa_ir.specs.declared.tokens.Token.{Token}
 use Rattle.vfa_ir.specs.declared.tokens.TokenKind.{TokenKind}
 use Rattle.vfa_lex.specs.Gaps.{BeginsGap, Fill, none, next}
-
-pick : {X : Type 0} (P : X → Type 0) (b : Bool) (x y : X) → (b ≡ true → P x) → (b ≡ false → P y) → P (cond b x y)
-pick P true x y p q = p refl
-pick P false x y p q = q refl
 
 abbrev GapBegins : ℕ → List ℕ → Piece → Type 0
 GapBegins b rest (gap more) = BeginsGap b rest more
 GapBegins b rest (token _ _) = Unit {0}
 
-is_semicolon : (b : ℕ) → (b == 59) ≡ true → b ≡ 59
+is_semicolon : (b : ℕ) → (b == byte ";") ≡ true → b ≡ byte ";"
 is_semicolon b h = grind arith
 
 gap_begins : (b : ℕ) (rest : List ℕ) → GapBegins b rest (piece_of b rest)
-unfolding piece_of named meta group quoted or_label run_of
+unfolding piece_of after_sigil meta group quoted or_label run_of
 gap_begins b rest =
     let P : Piece → Type 0 = GapBegins b rest in
     let is_token : (t : Bool) (k l : TokenKind) (m n : ℕ) → P (cond t (token k m) (token l n)) =
     λ t k l m n. pick P t _ _ (λ _. tt) (λ _. tt) in
     pick P (is_blank b) _ _ (λ h. inl (h, refl))
-    (λ _. pick P (b == 59) _ _ (λ h. inr (is_semicolon b h, refl))
-    (λ _. pick P (b == 37) _ _ (λ _. is_token _ _ _ _ _)
-    (λ _. pick P (b == 64) _ _ (λ _. is_token _ _ _ _ _)
-    (λ _. pick P (b == 33) _ _ (λ _. is_token _ _ _ _ _)
-    (λ _. pick P (b == 35) _ _ (λ _. is_token _ _ _ _ _)
-    (λ _. pick P (b == 34) _ _ (λ _. is_no_gap (quoted_len rest))
+    (λ _. pick P (b == byte ";") _ _ (λ h. inr (is_semicolon b h, refl))
+    (λ _. pick P (b == byte "%") _ _ (λ _. is_token _ _ _ _ _)
+    (λ _. pick P (b == byte "@") _ _ (λ _. is_token _ _ _ _ _)
+    (λ _. pick P (b == byte "!") _ _ (λ _. is_token _ _ _ _ _)
+    (λ _. pick P (b == byte "#") _ _ (λ _. is_token _ _ _ _ _)
+    (λ _. pick P (b == byte "\"") _ _ (λ _. is_no_gap (quoted_len rest))
     (λ _. pick P (is_run_byte b) _ _ (λ _. is_token _ _ _ _ _)
     (λ _. pick P (is_mark b) _ _ (λ _. tt) (λ _. tt)))))))))
   where
@@ -50,7 +47,7 @@ left_at bytes place b bs e =
     let long : length (drop place bytes) ≡ length bytes - place = length-drop place bytes in
     let more : length (drop place bytes) ≡ suc (length bs) = ap length e in
     let inside : place < length bytes = omega arith in
-    let front : drop place bytes ≡ get_or bytes place 0 ∷ drop (place + 1) bytes = rw add-one (drop-cons bytes place 0 inside) in
+    let at_place : drop place bytes ≡ get_or bytes place 0 ∷ drop (place + 1) bytes = rw add-one (drop-cons bytes place 0 inside) in
     record { inside = inside; here = cc; rest = cc }
 
 fill_more :
@@ -61,7 +58,7 @@ fill_more bytes at more (t ∷ ts) inside begins left = (next at more t.start in
 
 fill :
     (bytes : List ℕ) (skip place line : ℕ) (bs : List ℕ) → drop place bytes ≡ bs → place ≤ length bytes →
-    skip ≤ length bs → Fill bytes (place + skip) (tokens_behind skip place line bs)
+    skip ≤ length bs → Fill bytes (place + skip) (tokens_after skip place line bs)
 fill bytes skip place line [] e within short =
     let long : length (drop place bytes) ≡ length bytes - place = length-drop place bytes in
     let ended : length (drop place bytes) ≡ 0 = ap length e in
@@ -77,20 +74,20 @@ fill bytes zero place line (b ∷ bs) e within short =
   where
     by_piece :
         (p : Piece) → more_of p ≤ length bs → GapBegins b bs p →
-        ((more : ℕ) → more ≤ length bs → Fill bytes (place + 1 + more) (tokens_behind more (place + 1) (line + line_feed b) bs)) →
+        ((more : ℕ) → more ≤ length bs → Fill bytes (place + 1 + more) (tokens_after more (place + 1) (line + line_feed b) bs)) →
         Fill bytes (place + 0)
         (elim p [
-          | gap more ↦ tokens_behind more (place + 1) (line + line_feed b) bs
+          | gap more ↦ tokens_after more (place + 1) (line + line_feed b) bs
           | token kind more ↦
               record { kind = kind; start = place; end = place + 1 + more; line = line }
-              ∷ tokens_behind more (place + 1) (line + line_feed b) bs
+              ∷ tokens_after more (place + 1) (line + line_feed b) bs
         ])
-    by_piece (gap more) ends begins behind =
+    by_piece (gap more) ends begins after =
         let left = left_at bytes place b bs e in
         let at : place + 0 ≡ place = omega arith in
-        rw at (fill_more bytes place more _ left.inside (rw (left.here, left.rest) begins) (behind more ends))
-    by_piece (token kind more) ends begins behind =
-        let at : place + 0 ≡ place = omega arith in rw at (none place, behind more ends)
+        rw at (fill_more bytes place more _ left.inside (rw (left.here, left.rest) begins) (after more ends))
+    by_piece (token kind more) ends begins after =
+        let at : place + 0 ≡ place = omega arith in rw at (none place, after more ends)
 
 pub tokens_fill : (bytes : List ℕ) (line : ℕ) → Fill bytes 0 (tokens_from bytes 0 line)
 tokens_fill bytes line = fill bytes 0 0 line bytes refl (omega arith) (omega arith)

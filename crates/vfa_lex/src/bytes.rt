@@ -1,11 +1,13 @@
 //! Classes of bytes, and how far they reach.
 
-ghost use Rattle.std.specs.Prelude.{◌≡◌, ◌<◌, ◌≤◌, ◌^◌, ◌==◌, length, slice_index, not, ◌||◌};
-ghost use Rattle.std.specs.List.{list_all, prefix_len};
+ghost use Rattle.std.specs.Prelude.{◌≡◌, ◌<◌, ◌≤◌, ◌^◌, ◌==◌, ◌∷◌, length, slice_index, not};
+ghost use Rattle.std.specs.Char.{is_ascii_digit};
+ghost use Rattle.std.specs.List.{prefix_len};
 ghost use Rattle.std.specs.Str.{byte};
 ghost use Rattle.vfa_ir.specs.Tokens as spec;
+ghost use Rattle.vfa_ir.specs.Words as words;
 
-use vfa_ir::{is_digit, is_run_byte};
+use vfa_ir::{all_digits, is_digits, is_run_byte};
 
 #[tactic(auto, unfolding(vfa_ir::specs::Tokens::is_mark))]
 pub(crate) fn is_mark(b: u8) -> bool
@@ -38,9 +40,9 @@ pub(crate) fn run_length(bytes: &[u8]) -> usize
 
 /// How many digits the bytes begin with.
 pub(crate) fn digits(bytes: &[u8]) -> usize
-    ensures { result ≡ prefix_len spec.is_digit bytes.now }
+    ensures { result ≡ prefix_len is_ascii_digit bytes.now }
 {
-    bytes.iter().take_while(|b| is_digit(**b)).count()
+    bytes.iter().take_while(|b| b.is_ascii_digit()).count()
 }
 
 /// How many bytes stand before the end of the line.
@@ -83,24 +85,12 @@ pub(crate) fn name_length(bytes: &[u8]) -> usize
 
 /// Whether the first byte and those that follow it are digits, or `-` and digits.
 pub(crate) fn is_number(first: u8, more: &[u8]) -> bool
-    ensures { result ≡ spec.is_number first more.now }
+    ensures { result ≡ words.is_number (first ∷ more.now) }
 {
-    if more.is_empty() {
-        return is_digit(first);
+    match first {
+        b'-' => is_digits(more),
+        _ => first.is_ascii_digit() && all_digits(more),
     }
-    begins_number(first) && all_digits(more)
-}
-
-fn begins_number(b: u8) -> bool
-    ensures { result ≡ (spec.is_digit b || b == byte "-") }
-{
-    is_digit(b) || b == b'-'
-}
-
-fn all_digits(bytes: &[u8]) -> bool
-    ensures { result ≡ list_all spec.is_digit bytes.now }
-{
-    bytes.iter().all(|b| is_digit(*b))
 }
 
 /// How many lines end at the byte: one at a line feed, and else none.

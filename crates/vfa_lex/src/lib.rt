@@ -7,4 +7,4 @@ mod reading;
 #[cfg(test)]
 mod tests;
 
-pub use reading::{line_behind, token_at, tokens};
+pub use reading::{line_after, token_at, tokens};

@@ -26,8 +26,8 @@ pub(crate) fn first_piece(first: u8, rest: &[u8]) -> Piece
     }
     match first {
         b';' => Piece::Gap(line_length(rest)),
-        b'%' => named(TokenKind::Local, rest),
-        b'@' => named(TokenKind::Global, rest),
+        b'%' => after_sigil(TokenKind::Local, rest),
+        b'@' => after_sigil(TokenKind::Global, rest),
         b'!' => meta(rest),
         b'#' => group(rest),
         b'"' => quoted(rest),
@@ -37,9 +37,10 @@ pub(crate) fn first_piece(first: u8, rest: &[u8]) -> Piece
     }
 }
 
-#[tactic(auto, unfolding(vfa_ir::specs::Tokens::named))]
-fn named(kind: TokenKind, rest: &[u8]) -> Piece
-    ensures { as_piece result ≡ spec.named kind rest.now }
+/// A name of this kind after its sigil.
+#[tactic(auto, unfolding(vfa_ir::specs::Tokens::after_sigil))]
+fn after_sigil(kind: TokenKind, rest: &[u8]) -> Piece
+    ensures { as_piece result ≡ spec.after_sigil kind rest.now }
 {
     match name_length(rest) {
         0 => Piece::Token(TokenKind::Other, 0),

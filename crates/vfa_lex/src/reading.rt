@@ -2,6 +2,7 @@
 
 ghost use Rattle.std.specs.Prelude.{◌≡◌, ◌<◌, ◌≤◌, ◌+◌, ◌-◌, ◌^◌, length, ◌∷◌, IfOk, IfSome};
 ghost use Rattle.std.specs.List.{AllByRecursion};
+ghost use Rattle.vfa_ir.specs.Limits.{most_bytes};
 ghost use Rattle.vfa_ir.specs.Tokens as spec;
 ghost use Rattle.vfa_lex.specs.Gaps.{Fill};
 
@@ -21,7 +22,7 @@ pub fn token_at(bytes: &[u8], from: usize, line: u32) -> Option<Token>
     ensures placed { IfSome result (λ t. spec.IsPlaced bytes.now from line t) }
     ensures rest { IfSome result (λ t.
         spec.tokens_from bytes.now from line
-        ≡ t ∷ spec.tokens_from bytes.now t.end (spec.line_behind bytes.now t)) }
+        ≡ t ∷ spec.tokens_from bytes.now t.end (spec.line_after bytes.now t)) }
 {
     let mut at = from;
     let mut line = line;
@@ -47,11 +48,11 @@ pub fn token_at(bytes: &[u8], from: usize, line: u32) -> Option<Token>
 
 /// The line on which reading goes on after a token: its own, and one more for each line feed in it, as a string may
 /// have them.
-pub fn line_behind(bytes: &[u8], token: &Token) -> u32
+pub fn line_after(bytes: &[u8], token: &Token) -> u32
     requires order { token.now.start ≤ token.now.end }
     requires within { token.now.end ≤ length bytes.now }
     requires lines { token.now.line + (token.now.end - token.now.start) < 2 ^ 32 }
-    ensures { result ≡ spec.line_behind bytes.now token.now }
+    ensures { result ≡ spec.line_after bytes.now token.now }
 {
     token.line + line_feeds(&bytes[token.start..token.end])
 }
@@ -60,7 +61,7 @@ pub fn line_behind(bytes: &[u8], token: &Token) -> u32
 ///
 /// `a: ; c` has the label `a:` and nothing else.
 pub fn tokens(alloc: Global, bytes: &[u8]) -> Result<Vec<Token>, AllocError>
-    requires { length bytes.now ≤ 16777216 }
+    requires { length bytes.now ≤ most_bytes }
     ensures all { IfOk result (λ all. all.items ≡ spec.tokens_of bytes.now) }
     ensures placed { IfOk result (λ all. AllByRecursion (spec.IsPlaced bytes.now 0 1) all.items) }
     ensures order { IfOk result (λ all. spec.AreInOrder 0 all.items) }
@@ -73,7 +74,7 @@ pub fn tokens(alloc: Global, bytes: &[u8]) -> Result<Vec<Token>, AllocError>
     while let Some(token) = token_at(bytes, at, line) {
         all.push(token)?;
         at = token.end;
-        line = line_behind(bytes, &token);
+        line = line_after(bytes, &token);
     }
     Ok(all)
 }

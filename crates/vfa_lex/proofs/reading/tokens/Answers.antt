@@ -1,14 +1,14 @@
 use Rattle.std.proofs.Common.{◌≡◌, [], ◌++◌, ◌∙◌, List, arith, append_assoc, append-nil, subst}
 use Rattle.std.specs.List.{AllByRecursion}
-use Rattle.vfa_ir.proofs.Reading.{behind_line, no_first, placed_line, tokens_in_order, tokens_placed}
+use Rattle.vfa_ir.proofs.Reading.{line_after_most, no_first, placed_line, tokens_in_order, tokens_placed}
 use Rattle.vfa_ir.specs.Tokens as spec
 use Rattle.vfa_ir.specs.declared.tokens.Token.{Token}
 use Rattle.vfa_lex.proofs.GapsBetween.{tokens_fill}
 use Rattle.vfa_lex.specs.Gaps.{Fill}
 use Rattle.vfa_lex.proofs.reading.tokens.Goals as goal
 
-pub line_behind-line-requires-clause-lines : goal.line_behind-line-requires-clause-lines
-line_behind-line-requires-clause-lines c =
+pub line_after-line-requires-clause-lines : goal.line_after-line-requires-clause-lines
+line_after-line-requires-clause-lines c =
     let placed = c.in-Some.ensures.placed in
     let on = placed_line _ _ _ _ placed in
     omega arith
@@ -16,8 +16,8 @@ line_behind-line-requires-clause-lines c =
 pub loop-token-preserved : goal.loop-token-preserved
 loop-token-preserved c =
     let placed = c.in-Some.ensures.placed in
-    let on = behind_line _ _ _ _ placed in
-    let line = c.line_behind-line.ensures in
+    let on = line_after_most _ _ _ _ placed in
+    let line = c.line_after-line.ensures in
     record {
       within = placed.within;
       lines = omega arith;
@@ -26,7 +26,7 @@ loop-token-preserved c =
           (rw (← c.in-Some.ensures.rest) c.loop-token.invariant.same);
     }
 
--- behind the last token nothing is left
+-- after the last token nothing is left
 all_read : (all left : List Token) (read : List Token) → all ≡ read ++ left → left ≡ [] → all ≡ read
 all_read all left read same none = same ∙ rw none (append-nil read)
 
