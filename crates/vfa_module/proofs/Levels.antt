@@ -21,8 +21,8 @@ positive (suc n) e = omega arith
 
 count_cons :
     (text : List ℕ) (b : ℕ) (t : Token) (ts : List Token) →
-    bracket_count text b (t ∷ ts) ≡ one_if (spec.front_byte text t == b) + bracket_count text b ts
-count_cons text b t ts = sum_by-cons (λ u. one_if (spec.front_byte text u == b)) t ts
+    bracket_count text b (t ∷ ts) ≡ one_if (spec.first_byte text t == b) + bracket_count text b ts
+count_cons text b t ts = sum_by-cons (λ u. one_if (spec.first_byte text u == b)) t ts
 
 global_cons : (t : Token) (ts : List Token) → global_count (t ∷ ts) ≡ one_if (spec.is_global t.kind) + global_count ts
 global_cons t ts = sum_by-cons (λ u. one_if (spec.is_global u.kind)) t ts
@@ -65,16 +65,16 @@ Body text braces ts (Some t) = BodyFound text braces ts t
 -- one token of the body: the numbers of braces, by what it is
 body_counts :
     (text : List ℕ) (braces b o c : ℕ) → spec.closes_body braces b ≡ false →
-    ((braces + 1 + (one_if (b == 123) + o) ≡ one_if (b == 125) + c) → spec.braces_after braces b + 1 + o ≡ c)
-    × ((spec.braces_after braces b + 1 + o ≡ c) → braces + 1 + (one_if (b == 123) + o) ≡ one_if (b == 125) + c)
+    ((braces + 1 + (one_if (b == byte "{") + o) ≡ one_if (b == byte "}") + c) → spec.braces_after braces b + 1 + o ≡ c)
+    × ((spec.braces_after braces b + 1 + o ≡ c) → braces + 1 + (one_if (b == byte "{") + o) ≡ one_if (b == byte "}") + c)
 unfolding spec.closes_body
-body_counts text braces b o c unclosed = go (b == 123) (b == 125) refl refl unclosed
+body_counts text braces b o c unclosed = go (b == byte "{") (b == byte "}") refl refl unclosed
   where
     go :
-        (u v : Bool) → (b == 123) ≡ u → (b == 125) ≡ v → (braces == 0 && v) ≡ false →
+        (u v : Bool) → (b == byte "{") ≡ u → (b == byte "}") ≡ v → (braces == 0 && v) ≡ false →
         ((braces + 1 + (one_if u + o) ≡ one_if v + c) → cond u (braces + 1) (cond v (braces - 1) braces) + 1 + o ≡ c)
         × ((cond u (braces + 1) (cond v (braces - 1) braces) + 1 + o ≡ c) → braces + 1 + (one_if u + o) ≡ one_if v + c)
-    go true true e f unclosed = let one = eqb-true b 123 e in let other = eqb-true b 125 f in absurd (omega arith)
+    go true true e f unclosed = let one = eqb-true b (byte "{") e in let other = eqb-true b (byte "}") f in absurd (omega arith)
     go true false e f unclosed = (λ h. omega arith, λ h. omega arith)
     go false true e f unclosed =
         let some : braces == 0 ≡ false = (cases_false (braces == 0) unclosed) in
@@ -83,47 +83,47 @@ body_counts text braces b o c unclosed = go (b == 123) (b == 125) refl refl uncl
     go false false e f unclosed = (λ h. omega arith, λ h. omega arith)
 
 body_step :
-    (text : List ℕ) (braces : ℕ) (t : Token) (rest : List Token) → spec.closes_body braces (spec.front_byte text t) ≡ false →
-    Body text (spec.braces_after braces (spec.front_byte text t)) rest
-    (spec.closing_of_body text (spec.braces_after braces (spec.front_byte text t)) rest) →
+    (text : List ℕ) (braces : ℕ) (t : Token) (rest : List Token) → spec.closes_body braces (spec.first_byte text t) ≡ false →
+    Body text (spec.braces_after braces (spec.first_byte text t)) rest
+    (spec.closing_of_body text (spec.braces_after braces (spec.first_byte text t)) rest) →
     Body text braces (t ∷ rest)
-    (spec.closing_of_body text (spec.braces_after braces (spec.front_byte text t)) rest)
+    (spec.closing_of_body text (spec.braces_after braces (spec.first_byte text t)) rest)
 body_step text braces t rest unclosed left =
-    by_answer (spec.closing_of_body text (spec.braces_after braces (spec.front_byte text t)) rest) left
+    by_answer (spec.closing_of_body text (spec.braces_after braces (spec.first_byte text t)) rest) left
   where
     counts : (k : ℕ) →
-        (LevelFrom text braces (t ∷ rest) (suc k) → LevelFrom text (spec.braces_after braces (spec.front_byte text t)) rest k)
-        × (LevelFrom text (spec.braces_after braces (spec.front_byte text t)) rest k → LevelFrom text braces (t ∷ rest) (suc k))
+        (LevelFrom text braces (t ∷ rest) (suc k) → LevelFrom text (spec.braces_after braces (spec.first_byte text t)) rest k)
+        × (LevelFrom text (spec.braces_after braces (spec.first_byte text t)) rest k → LevelFrom text braces (t ∷ rest) (suc k))
     counts k =
-        let opened = count_cons text 123 t (take (suc k) rest) in
-        let closed = count_cons text 125 t (take (suc k) rest) in
+        let opened = count_cons text (byte "{") t (take (suc k) rest) in
+        let closed = count_cons text (byte "}") t (take (suc k) rest) in
         let both =
-        body_counts text braces (spec.front_byte text t) (bracket_count text 123 (take (suc k) rest))
-        (bracket_count text 125 (take (suc k) rest)) unclosed in
+        body_counts text braces (spec.first_byte text t) (bracket_count text (byte "{") (take (suc k) rest))
+        (bracket_count text (byte "}") (take (suc k) rest)) unclosed in
         (λ h. both.0 (rw (opened, closed) at h), λ h. rw (opened, closed) (both.1 h))
 
     not_here : ¬ LevelFrom text braces (t ∷ rest) 0
-    not_here h = let zero_at : braces + 1 + (one_if (spec.front_byte text t == 123) + 0) ≡ one_if (spec.front_byte text t == 125) + 0 = omega arith in let e = (body_counts text braces (spec.front_byte text t) 0 0 unclosed).0 zero_at in omega arith
+    not_here h = let zero_at : braces + 1 + (one_if (spec.first_byte text t == byte "{") + 0) ≡ one_if (spec.first_byte text t == byte "}") + 0 = omega arith in let e = (body_counts text braces (spec.first_byte text t) 0 0 unclosed).0 zero_at in omega arith
 
     nowhere :
-        ((place : ℕ) → ¬ LevelFrom text (spec.braces_after braces (spec.front_byte text t)) rest place) → (place : ℕ) →
+        ((place : ℕ) → ¬ LevelFrom text (spec.braces_after braces (spec.first_byte text t)) rest place) → (place : ℕ) →
         ¬ LevelFrom text braces (t ∷ rest) place
     nowhere none zero = not_here
     nowhere none (suc k) = λ h. none k ((counts k).0 h)
 
     by_answer :
-        (o : Option Token) → Body text (spec.braces_after braces (spec.front_byte text t)) rest o → Body text braces (t ∷ rest) o
+        (o : Option Token) → Body text (spec.braces_after braces (spec.first_byte text t)) rest o → Body text braces (t ∷ rest) o
     by_answer None none = nowhere none
     by_answer (Some u) found =
         record {
           place = suc found.place;
-          first = first_later (LevelFrom text braces (t ∷ rest)) (LevelFrom text (spec.braces_after braces (spec.front_byte text t)) rest)
+          first = first_later (LevelFrom text braces (t ∷ rest)) (LevelFrom text (spec.braces_after braces (spec.first_byte text t)) rest)
               found.place not_here (λ k. (counts k).0) (λ k. (counts k).1) found.first;
           token = found.token;
         }
 
 body_here :
-    (text : List ℕ) (braces : ℕ) (t : Token) (rest : List Token) → spec.closes_body braces (spec.front_byte text t) ≡ true →
+    (text : List ℕ) (braces : ℕ) (t : Token) (rest : List Token) → spec.closes_body braces (spec.first_byte text t) ≡ true →
     BodyFound text braces (t ∷ rest) t
 unfolding spec.closes_body
 body_here text braces t rest closed =
@@ -131,10 +131,10 @@ body_here text braces t rest closed =
   where
     level : LevelFrom text braces (t ∷ rest) 0
     level =
-        let b : ℕ = spec.front_byte text t in
-        let parts = and_parts (braces == 0) (spec.front_byte text t == 125) closed in
+        let b : ℕ = spec.first_byte text t in
+        let parts = and_parts (braces == 0) (spec.first_byte text t == byte "}") closed in
         let none : braces ≡ 0 = eqb-true braces 0 parts.0 in
-        let is : spec.front_byte text t ≡ 125 = eqb-true (spec.front_byte text t) 125 parts.1 in
+        let is : spec.first_byte text t ≡ byte "}" = eqb-true (spec.first_byte text t) (byte "}") parts.1 in
         rw (is, none) refl
 
 body : (text : List ℕ) (braces : ℕ) (ts : List Token) → Body text braces ts (spec.closing_of_body text braces ts)
@@ -143,15 +143,15 @@ body text braces [] = none
     none : (place : ℕ) → ¬ LevelFrom text braces [] place
     none place h = omega arith
 body text braces (t ∷ rest) =
-    by_test (spec.closes_body braces (spec.front_byte text t)) refl
-    (body text (spec.braces_after braces (spec.front_byte text t)) rest)
+    by_test (spec.closes_body braces (spec.first_byte text t)) refl
+    (body text (spec.braces_after braces (spec.first_byte text t)) rest)
   where
     by_test :
-        (b : Bool) → spec.closes_body braces (spec.front_byte text t) ≡ b →
-        Body text (spec.braces_after braces (spec.front_byte text t)) rest
-        (spec.closing_of_body text (spec.braces_after braces (spec.front_byte text t)) rest) →
+        (b : Bool) → spec.closes_body braces (spec.first_byte text t) ≡ b →
+        Body text (spec.braces_after braces (spec.first_byte text t)) rest
+        (spec.closing_of_body text (spec.braces_after braces (spec.first_byte text t)) rest) →
         Body text braces (t ∷ rest)
-        (cond b (Some t) (spec.closing_of_body text (spec.braces_after braces (spec.front_byte text t)) rest))
+        (cond b (Some t) (spec.closing_of_body text (spec.braces_after braces (spec.first_byte text t)) rest))
     by_test true closed left = body_here text braces t rest closed
     by_test false unclosed left = body_step text braces t rest unclosed left
 
@@ -159,7 +159,7 @@ body text braces (t ∷ rest) =
 
 -- a place of the header can unclosed the body, where it is already named or not, inside so many parentheses
 record OpensFrom (text : List ℕ) (named : Bool) (parens : ℕ) (ts : List Token) (place : ℕ) : Type 0 where
-  brace : IsSomeAnd (slice_get ts place) (λ t. spec.front_byte text t ≡ byte "{")
+  brace : IsSomeAnd (slice_get ts place) (λ t. spec.first_byte text t ≡ byte "{")
   name : 0 < one_if named + global_count (take place ts)
   all : parens + bracket_count text (byte "(") (take place ts) ≤ bracket_count text (byte ")") (take place ts)
   outside : IsOutside text ts place
@@ -179,15 +179,15 @@ Header text named parens ts o = HeaderFound text named parens ts o ⊎ HeaderEnd
 -- one token of the header: the numbers of parentheses, by what it is
 paren_counts :
     (parens b o c : ℕ) → o ≤ c →
-    (spec.parens_after parens b + o ≤ c → (parens + (one_if (b == 40) + o) ≤ one_if (b == 41) + c) × (one_if (b == 40) + o ≤ one_if (b == 41) + c))
-    × (parens + (one_if (b == 40) + o) ≤ one_if (b == 41) + c → one_if (b == 40) + o ≤ one_if (b == 41) + c → spec.parens_after parens b + o ≤ c)
-paren_counts parens b o c sooner = go (b == 40) (b == 41) refl refl
+    (spec.parens_after parens b + o ≤ c → (parens + (one_if (b == byte "(") + o) ≤ one_if (b == byte ")") + c) × (one_if (b == byte "(") + o ≤ one_if (b == byte ")") + c))
+    × (parens + (one_if (b == byte "(") + o) ≤ one_if (b == byte ")") + c → one_if (b == byte "(") + o ≤ one_if (b == byte ")") + c → spec.parens_after parens b + o ≤ c)
+paren_counts parens b o c sooner = go (b == byte "(") (b == byte ")") refl refl
   where
     go :
-        (u v : Bool) → (b == 40) ≡ u → (b == 41) ≡ v →
+        (u v : Bool) → (b == byte "(") ≡ u → (b == byte ")") ≡ v →
         (cond u (parens + 1) (cond v (parens - 1) parens) + o ≤ c → (parens + (one_if u + o) ≤ one_if v + c) × (one_if u + o ≤ one_if v + c))
         × (parens + (one_if u + o) ≤ one_if v + c → one_if u + o ≤ one_if v + c → cond u (parens + 1) (cond v (parens - 1) parens) + o ≤ c)
-    go true true e f = let one = eqb-true b 40 e in let other = eqb-true b 41 f in absurd (omega arith)
+    go true true e f = let one = eqb-true b (byte "(") e in let other = eqb-true b (byte ")") f in absurd (omega arith)
     go true false e f = (λ h. (omega arith, omega arith), λ h k. omega arith)
     go false true e f = (λ h. (omega arith, omega arith), λ h k. omega arith)
     go false false e f = (λ h. (omega arith, omega arith), λ h k. omega arith)
@@ -199,12 +199,12 @@ name_counts false is n = (λ h. omega arith, λ h. omega arith)
 -- what can unclosed the body after a token can unclosed it before, and the other way round
 opens_sooner :
     (text : List ℕ) (named : Bool) (parens : ℕ) (t : Token) (rest : List Token) (k : ℕ) →
-    OpensFrom text (named || spec.is_global t.kind) (spec.parens_after parens (spec.front_byte text t)) rest k →
+    OpensFrom text (named || spec.is_global t.kind) (spec.parens_after parens (spec.first_byte text t)) rest k →
     OpensFrom text named parens (t ∷ rest) (suc k)
 opens_sooner text named parens t rest k o =
-    let opened = count_cons text 40 t (take k rest) in
-    let closed = count_cons text 41 t (take k rest) in
-    let counts = (paren_counts parens (spec.front_byte text t) _ _ (o.outside 0)).0 o.all in
+    let opened = count_cons text (byte "(") t (take k rest) in
+    let closed = count_cons text (byte ")") t (take k rest) in
+    let counts = (paren_counts parens (spec.first_byte text t) _ _ (o.outside 0)).0 o.all in
     record {
       brace = o.brace;
       name = rw (global_cons t (take k rest)) ((name_counts named (spec.is_global t.kind) _).0 o.name);
@@ -213,7 +213,7 @@ opens_sooner text named parens t rest k o =
     }
   where
     outside :
-        bracket_count text 40 (take (suc k) (t ∷ rest)) ≤ bracket_count text 41 (take (suc k) (t ∷ rest)) →
+        bracket_count text (byte "(") (take (suc k) (t ∷ rest)) ≤ bracket_count text (byte ")") (take (suc k) (t ∷ rest)) →
         IsOutside text (t ∷ rest) (suc k)
     outside h zero = h
     outside h (suc q) = o.outside q
@@ -221,10 +221,10 @@ opens_sooner text named parens t rest k o =
 opens_later :
     (text : List ℕ) (named : Bool) (parens : ℕ) (t : Token) (rest : List Token) (k : ℕ) →
     OpensFrom text named parens (t ∷ rest) (suc k) →
-    OpensFrom text (named || spec.is_global t.kind) (spec.parens_after parens (spec.front_byte text t)) rest k
+    OpensFrom text (named || spec.is_global t.kind) (spec.parens_after parens (spec.first_byte text t)) rest k
 opens_later text named parens t rest k o =
-    let opened = count_cons text 40 t (take k rest) in
-    let closed = count_cons text 41 t (take k rest) in
+    let opened = count_cons text (byte "(") t (take k rest) in
+    let closed = count_cons text (byte ")") t (take k rest) in
     let all = o.all in
     let here = o.outside 0 in
     record {
@@ -233,38 +233,38 @@ opens_later text named parens t rest k o =
           (name_counts named (spec.is_global t.kind) (global_count (take k rest))).1
           (rw (global_cons t (take k rest)) at o.name);
       all =
-          (paren_counts parens (spec.front_byte text t) (bracket_count text 40 (take k rest))
-          (bracket_count text 41 (take k rest)) (o.outside 1)).1
+          (paren_counts parens (spec.first_byte text t) (bracket_count text (byte "(") (take k rest))
+          (bracket_count text (byte ")") (take k rest)) (o.outside 1)).1
           (rw (opened, closed) at all) (rw (opened, closed) at here);
       outside = λ q. o.outside (suc q);
     }
 
 opens_here :
     (text : List ℕ) (named : Bool) (parens : ℕ) (t : Token) (rest : List Token) →
-    spec.opens_body named parens (spec.front_byte text t) ≡ true → OpensFrom text named parens (t ∷ rest) 0
+    spec.opens_body named parens (spec.first_byte text t) ≡ true → OpensFrom text named parens (t ∷ rest) 0
 unfolding spec.opens_body
 opens_here text named parens t rest h =
-    let parts = and_parts (named && parens == 0) (spec.front_byte text t == 123) h in
+    let parts = and_parts (named && parens == 0) (spec.first_byte text t == byte "{") h in
     let more = and_parts named (parens == 0) parts.0 in
     let none : parens ≡ 0 = eqb-true parens 0 more.1 in
     record {
-      brace = eqb-true (spec.front_byte text t) 123 parts.1;
+      brace = eqb-true (spec.first_byte text t) (byte "{") parts.1;
       name = (rw more.0 (omega arith));
       all = omega arith;
       outside = λ q. none_between q;
     }
   where
-    none_between : (q : ℕ) → bracket_count text 40 (tokens_between (t ∷ rest) q 0) ≤ bracket_count text 41 (tokens_between (t ∷ rest) q 0)
+    none_between : (q : ℕ) → bracket_count text (byte "(") (tokens_between (t ∷ rest) q 0) ≤ bracket_count text (byte ")") (tokens_between (t ∷ rest) q 0)
     none_between zero = omega arith
     none_between (suc q) = omega arith
 
 opens_not_here :
     (text : List ℕ) (named : Bool) (parens : ℕ) (t : Token) (rest : List Token) →
-    spec.opens_body named parens (spec.front_byte text t) ≡ false → ¬ OpensFrom text named parens (t ∷ rest) 0
+    spec.opens_body named parens (spec.first_byte text t) ≡ false → ¬ OpensFrom text named parens (t ∷ rest) 0
 unfolding spec.opens_body
 opens_not_here text named parens t rest h o =
     let none : parens ≡ 0 = (let all = o.all in omega arith) in
-    let is : spec.front_byte text t ≡ 123 = o.brace in
+    let is : spec.first_byte text t ≡ byte "{" = o.brace in
     let name : named ≡ true = named_is named o.name in
     true≢false (sym (rw (name, none, is) refl) ∙ h)
   where
@@ -277,15 +277,15 @@ header :
     Header text named parens ts (spec.closing_of_define text named parens ts)
 header text named parens [] = inr (record { none = λ place o. nothing place o.brace; same = refl })
   where
-    nothing : (place : ℕ) → ¬ IsSomeAnd (slice_get {X = Token} [] place) (λ t. spec.front_byte text t ≡ byte "{")
+    nothing : (place : ℕ) → ¬ IsSomeAnd (slice_get {X = Token} [] place) (λ t. spec.first_byte text t ≡ byte "{")
     nothing place h = h
 header text named parens (t ∷ rest) =
-    by_test (spec.opens_body named parens (spec.front_byte text t)) refl
-    (header text (named || spec.is_global t.kind) (spec.parens_after parens (spec.front_byte text t)) rest)
+    by_test (spec.opens_body named parens (spec.first_byte text t)) refl
+    (header text (named || spec.is_global t.kind) (spec.parens_after parens (spec.first_byte text t)) rest)
   where
     by_header :
-        (o : Option Token) → spec.opens_body named parens (spec.front_byte text t) ≡ false →
-        Header text (named || spec.is_global t.kind) (spec.parens_after parens (spec.front_byte text t)) rest o →
+        (o : Option Token) → spec.opens_body named parens (spec.first_byte text t) ≡ false →
+        Header text (named || spec.is_global t.kind) (spec.parens_after parens (spec.first_byte text t)) rest o →
         Header text named parens (t ∷ rest) o
     by_header o closed (inl found) =
         inl (record {
@@ -298,18 +298,18 @@ header text named parens (t ∷ rest) =
     by_header o closed (inr ends) = inr (record { none = nowhere ends; same = ends.same })
       where
         nowhere :
-            HeaderEnds text (named || spec.is_global t.kind) (spec.parens_after parens (spec.front_byte text t)) rest o →
+            HeaderEnds text (named || spec.is_global t.kind) (spec.parens_after parens (spec.first_byte text t)) rest o →
             (place : ℕ) → ¬ OpensFrom text named parens (t ∷ rest) place
         nowhere ends zero = opens_not_here text named parens t rest closed
         nowhere ends (suc k) = λ h. ends.none k (opens_later text named parens t rest k h)
 
     by_test :
-        (b : Bool) → spec.opens_body named parens (spec.front_byte text t) ≡ b →
-        Header text (named || spec.is_global t.kind) (spec.parens_after parens (spec.front_byte text t)) rest
-        (spec.closing_of_define text (named || spec.is_global t.kind) (spec.parens_after parens (spec.front_byte text t)) rest) →
+        (b : Bool) → spec.opens_body named parens (spec.first_byte text t) ≡ b →
+        Header text (named || spec.is_global t.kind) (spec.parens_after parens (spec.first_byte text t)) rest
+        (spec.closing_of_define text (named || spec.is_global t.kind) (spec.parens_after parens (spec.first_byte text t)) rest) →
         Header text named parens (t ∷ rest)
         (cond b (spec.closing_of_body text 0 rest)
-        (spec.closing_of_define text (named || spec.is_global t.kind) (spec.parens_after parens (spec.front_byte text t)) rest))
+        (spec.closing_of_define text (named || spec.is_global t.kind) (spec.parens_after parens (spec.first_byte text t)) rest))
     by_test true opens left =
         inl (record {
           place = 0;
@@ -335,34 +335,34 @@ first_same P Q n on back first = record { has = on n first.has; none_before = λ
 -- after the opening brace the places are those of the body
 level_later :
     (text : List ℕ) (ts rest : List Token) (t : Token) (k j : ℕ) → drop k ts ≡ t ∷ rest →
-    spec.front_byte text t ≡ 123 → LevelFrom text 0 rest j → AreLevel text ts k (k + suc j)
+    spec.first_byte text t ≡ byte "{" → LevelFrom text 0 rest j → AreLevel text ts k (k + suc j)
 level_later text ts rest t k j e is level =
     let more : suc (k + suc j) ≡ k + suc (suc j) = omega arith in
-    let opened = count_cons text 123 t (take (suc j) rest) in
-    let closed = count_cons text 125 t (take (suc j) rest) in
+    let opened = count_cons text (byte "{") t (take (suc j) rest) in
+    let closed = count_cons text (byte "}") t (take (suc j) rest) in
     record {
       after = omega arith;
-      same = rw (more, drop-take, e, opened, closed, is) (let h : 0 + 1 + bracket_count text 123 (take (suc j) rest) ≡ bracket_count text 125 (take (suc j) rest) = level in omega arith);
+      same = rw (more, drop-take, e, opened, closed, is) (let h : 0 + 1 + bracket_count text (byte "{") (take (suc j) rest) ≡ bracket_count text (byte "}") (take (suc j) rest) = level in omega arith);
     }
 
 level_sooner :
     (text : List ℕ) (ts rest : List Token) (t : Token) (k j : ℕ) → drop k ts ≡ t ∷ rest →
-    spec.front_byte text t ≡ 123 → AreLevel text ts k (k + suc j) → LevelFrom text 0 rest j
+    spec.first_byte text t ≡ byte "{" → AreLevel text ts k (k + suc j) → LevelFrom text 0 rest j
 level_sooner text ts rest t k j e is level =
     let more : suc (k + suc j) ≡ k + suc (suc j) = omega arith in
-    let opened = count_cons text 123 t (take (suc j) rest) in
-    let closed = count_cons text 125 t (take (suc j) rest) in
+    let opened = count_cons text (byte "{") t (take (suc j) rest) in
+    let closed = count_cons text (byte "}") t (take (suc j) rest) in
     let same = level.same in
     let there = rw (more, drop-take, e, opened, closed, is) at same in
     omega arith
 
 not_level_at_first :
     (text : List ℕ) (ts rest : List Token) (t : Token) (k : ℕ) → drop k ts ≡ t ∷ rest →
-    spec.front_byte text t ≡ 123 → ¬ AreLevel text ts k k
+    spec.first_byte text t ≡ byte "{" → ¬ AreLevel text ts k k
 not_level_at_first text ts rest t k e is level =
     let more : suc k ≡ k + suc 0 = omega arith in
-    let opened = count_cons text 123 t [] in
-    let closed = count_cons text 125 t [] in
+    let opened = count_cons text (byte "{") t [] in
+    let closed = count_cons text (byte "}") t [] in
     let same = level.same in
     let there = rw (more, drop-take, e, opened, closed, is) at same in
     omega arith
@@ -373,10 +373,10 @@ record Opening (text : List ℕ) (ts : List Token) (k : ℕ) : Type 0 where
   rest : List Token
   here : drop k ts ≡ brace ∷ rest
   left : drop (suc k) ts ≡ rest
-  byte_is : spec.front_byte text brace ≡ 123
+  byte_is : spec.first_byte text brace ≡ 123
 
 opening_at :
-    (text : List ℕ) (ts : List Token) (k : ℕ) → IsSomeAnd (slice_get ts k) (λ t. spec.front_byte text t ≡ byte "{") →
+    (text : List ℕ) (ts : List Token) (k : ℕ) → IsSomeAnd (slice_get ts k) (λ t. spec.first_byte text t ≡ byte "{") →
     Opening text ts k
 opening_at text [] k h = absurd (h)
 opening_at text (t ∷ rest) zero h = record { brace = t; rest = rest; here = refl; left = refl; byte_is = h }

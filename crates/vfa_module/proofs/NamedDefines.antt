@@ -85,11 +85,11 @@ define_named text start end line d =
       name = named.name;
       token = named.there;
       kind = named.kind;
-      after = name.behind;
+      after = name.after;
       before = omega arith;
     }
 
-quoted_rest : (rest : List ℕ) (n : ℕ) → piece_of 34 rest ≡ token TokenKind.Other n → n ≡ length rest
+quoted_rest : (rest : List ℕ) (n : ℕ) → piece_of (byte "\"") rest ≡ token TokenKind.Other n → n ≡ length rest
 unfolding piece_of is_blank quoted or_label
 quoted_rest rest n e = by_quote (quoted_len rest) e
   where
@@ -106,11 +106,11 @@ quoted_rest rest n e = by_quote (quoted_len rest) e
         by_colon false e = cc
 
 pub string_to_end :
-    (text : List ℕ) (from line : ℕ) (t : Token) → IsPlaced text from line t → spec.front_byte text t ≡ byte "\"" →
+    (text : List ℕ) (from line : ℕ) (t : Token) → IsPlaced text from line t → spec.first_byte text t ≡ byte "\"" →
     t.kind ≡ TokenKind.Other → t.end ≡ length text
 string_to_end text from line t p quote other =
     let piece = p.piece in
-    let there : piece_of 34 (drop (t.start + 1) text) ≡ token TokenKind.Other (t.end - (t.start + 1)) = (rw (quote, other) at piece) in
+    let there : piece_of (byte "\"") (drop (t.start + 1) text) ≡ token TokenKind.Other (t.end - (t.start + 1)) = (rw (quote, other) at piece) in
     let rest : t.end - (t.start + 1) ≡ length (drop (t.start + 1) text) = quoted_rest (drop (t.start + 1) text) (t.end - (t.start + 1)) there in
     let long : length (drop (t.start + 1) text) ≡ length text - (t.start + 1) = length-drop (t.start + 1) text in
     let some = p.some in

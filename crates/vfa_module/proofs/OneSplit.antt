@@ -2,6 +2,7 @@
 use Rattle.std.proofs.Common.{inl, inr, ◌≡◌, ℕ, zero, suc, ◌+◌, ◌-◌, ◌<◌, ◌≤◌, ◌||◌, nat_lt, Bool, true, false, cond, List, [], ◌∷◌, length, take, drop, Option, Some, None, Result, Ok, Err, get_or, slice_get, length-drop, refl, sym, ap, arith, ◌∙◌, subst}
 use Rattle.std.proofs.lemmas.Bool.{cases_lt, true≢false}
 use Rattle.std.specs.List.{AllByRecursion}
+use Rattle.std.specs.Str.{byte}
 use Rattle.vfa_ir.specs.Tokens.{line_feeds}
 use Rattle.vfa_ir.specs.declared.tokens.Token.{Token}
 use Rattle.vfa_module.proofs.Levels.{closes_exactly}
@@ -59,7 +60,7 @@ no_define_here text at to sooner begins ends none = by_line (spec.define_of_line
           | inr past ↦ begins_no_later text at p to (blanks_of text at p (word_found text at p e)) sooner past (ends (omega arith))
         ])
 
-feed_of : (text : List ℕ) (at to : ℕ) → at < to → BeginsLine text to → get_or text (to - 1) 0 ≡ 10
+feed_of : (text : List ℕ) (at to : ℕ) → at < to → BeginsLine text to → get_or text (to - 1) 0 ≡ byte "\n"
 feed_of text at to sooner (inl zero_at) = absurd (omega arith)
 feed_of text at to sooner (inr feed) = feed
 
@@ -179,34 +180,34 @@ record Gone (text : List ℕ) (at line to : ℕ) (items : List Item) : Type 0 wh
   here : IsAt text to place number
   same : spec.defines_from text at line ≡ with_all (extents items) (spec.defines_from text place number)
 
-byte_of_body : (text : List ℕ) (braces : ℕ) (ts : List Token) (t : Token) → spec.closing_of_body text braces ts ≡ Some t → spec.front_byte text t ≡ 125
+byte_of_body : (text : List ℕ) (braces : ℕ) (ts : List Token) (t : Token) → spec.closing_of_body text braces ts ≡ Some t → spec.first_byte text t ≡ byte "}"
 byte_of_body text braces [] t e = absurd (cc)
 byte_of_body text braces (u ∷ ts) t e =
-    by_test (spec.closes_body braces (spec.front_byte text u)) refl e
-    (byte_of_body text (spec.braces_after braces (spec.front_byte text u)) ts t)
+    by_test (spec.closes_body braces (spec.first_byte text u)) refl e
+    (byte_of_body text (spec.braces_after braces (spec.first_byte text u)) ts t)
   where
     by_test :
-        (b : Bool) → spec.closes_body braces (spec.front_byte text u) ≡ b →
-        cond b (Some u) (spec.closing_of_body text (spec.braces_after braces (spec.front_byte text u)) ts) ≡ Some t →
-        (spec.closing_of_body text (spec.braces_after braces (spec.front_byte text u)) ts ≡ Some t → spec.front_byte text t ≡ 125) →
-        spec.front_byte text t ≡ 125
-    by_test true h e left = let same : u ≡ t = (cc) in ap (spec.front_byte text) (sym same) ∙ closes_byte braces (spec.front_byte text u) h
+        (b : Bool) → spec.closes_body braces (spec.first_byte text u) ≡ b →
+        cond b (Some u) (spec.closing_of_body text (spec.braces_after braces (spec.first_byte text u)) ts) ≡ Some t →
+        (spec.closing_of_body text (spec.braces_after braces (spec.first_byte text u)) ts ≡ Some t → spec.first_byte text t ≡ byte "}") →
+        spec.first_byte text t ≡ byte "}"
+    by_test true h e left = let same : u ≡ t = (cc) in ap (spec.first_byte text) (sym same) ∙ closes_byte braces (spec.first_byte text u) h
     by_test false h e left = left e
 
 byte_of_define :
     (text : List ℕ) (named : Bool) (parens : ℕ) (ts : List Token) (t : Token) →
-    spec.closing_of_define text named parens ts ≡ Some t → spec.front_byte text t ≡ 125
+    spec.closing_of_define text named parens ts ≡ Some t → spec.first_byte text t ≡ byte "}"
 byte_of_define text named parens [] t e = absurd (cc)
 byte_of_define text named parens (u ∷ ts) t e =
-    by_test (spec.opens_body named parens (spec.front_byte text u)) e
-    (byte_of_define text (named || spec.is_global u.kind) (spec.parens_after parens (spec.front_byte text u)) ts t)
+    by_test (spec.opens_body named parens (spec.first_byte text u)) e
+    (byte_of_define text (named || spec.is_global u.kind) (spec.parens_after parens (spec.first_byte text u)) ts t)
   where
     by_test :
         (b : Bool) →
         cond b (spec.closing_of_body text 0 ts)
-        (spec.closing_of_define text (named || spec.is_global u.kind) (spec.parens_after parens (spec.front_byte text u)) ts) ≡ Some t →
-        (spec.closing_of_define text (named || spec.is_global u.kind) (spec.parens_after parens (spec.front_byte text u)) ts ≡ Some t →
-        spec.front_byte text t ≡ 125) → spec.front_byte text t ≡ 125
+        (spec.closing_of_define text (named || spec.is_global u.kind) (spec.parens_after parens (spec.first_byte text u)) ts) ≡ Some t →
+        (spec.closing_of_define text (named || spec.is_global u.kind) (spec.parens_after parens (spec.first_byte text u)) ts ≡ Some t →
+        spec.first_byte text t ≡ byte "}") → spec.first_byte text t ≡ byte "}"
     by_test true e left = byte_of_body text 0 ts t e
     by_test false e left = left e
 
@@ -219,10 +220,10 @@ all_at P (u ∷ ts) (suc k) t all e = all_at P ts k t all.1 e
 brace_of : (text : List ℕ) (start : ℕ) (t : Token) → start ≤ length text → Closes text (tokens_at text start) t → IsBrace text start (line_at text start) t
 brace_of text start t inside c =
     let some : spec.closing_of_define text false 0 (tokens_at text start) ≡ Some t = (closes_exactly text (tokens_at text start) t).1 c in
-    let byte_is : get_or text t.start 0 ≡ 125 = byte_of_define text false 0 (tokens_at text start) t some in
+    let byte_is : get_or text t.start 0 ≡ byte "}" = byte_of_define text false 0 (tokens_at text start) t some in
     let placed = all_at _ _ c.closing t (tokens_placed text start (line_at text start) inside) c.token in
     record {
-      after = placed.behind;
+      after = placed.after;
       byte_is = byte_is;
       one = brace_end _ _ _ _ placed byte_is;
       within = placed.within;

@@ -5,6 +5,7 @@ use Rattle.std.proofs.lemmas.List.{drop-drop, get_or-drop}
 use Rattle.std.proofs.lemmas.List.Sums.{prefix_len_passes}
 use Rattle.vfa_ir.specs.declared.tokens.Token.{Token}
 use Rattle.std.specs.List.{AllByRecursion, position_or_len, prefix_len, starts_with}
+use Rattle.std.specs.Str.{byte}
 use Rattle.vfa_ir.proofs.Reading.{feeds_range}
 use Rattle.vfa_ir.specs.Tokens.{is_blank, line_feed, line_feeds}
 use Rattle.vfa_module.specs.Defines.{AreApart, BeginsDefine, BeginsLine, HasMore, HasNoDefine, IsBrace, IsPart}
@@ -14,16 +15,16 @@ use Rattle.vfa_module.specs.declared.items.SplitFault.{SplitFault}
 
 pub header_step :
     (text : List ℕ) (named : Bool) (parens : ℕ) (ts rest : List Token) (t : Token) → ts ≡ t ∷ rest →
-    spec.opens_body named parens (spec.front_byte text t) ≡ false →
+    spec.opens_body named parens (spec.first_byte text t) ≡ false →
     spec.closing_of_define text named parens ts ≡
-    spec.closing_of_define text (named || spec.is_global t.kind) (spec.parens_after parens (spec.front_byte text t)) rest
+    spec.closing_of_define text (named || spec.is_global t.kind) (spec.parens_after parens (spec.first_byte text t)) rest
 header_step text named parens ts rest t e h = rw (e, h) refl
 
 pub body_step :
     (text : List ℕ) (braces : ℕ) (ts rest : List Token) (t : Token) → ts ≡ t ∷ rest →
-    spec.closes_body braces (spec.front_byte text t) ≡ false →
+    spec.closes_body braces (spec.first_byte text t) ≡ false →
     spec.closing_of_body text braces ts ≡
-    spec.closing_of_body text (spec.braces_after braces (spec.front_byte text t)) rest
+    spec.closing_of_body text (spec.braces_after braces (spec.first_byte text t)) rest
 body_step text braces ts rest t e h = rw (e, h) refl
 
 -- the bytes of a line or a define are passed over
@@ -44,15 +45,15 @@ defines-next text at next line later =
     let on : at + 1 + (next - (at + 1)) ≡ next = omega arith in
     defines-skip text (next - (at + 1)) (at + 1) line (drop (at + 1) text) ∙ rw (drop-drop, on) refl
 
-front : (text : List ℕ) (at : ℕ) → at < length text → drop at text ≡ get_or text at 0 ∷ drop (at + 1) text
-front text at inside = rw add-one (drop-cons text at 0 inside)
+begins_with : (text : List ℕ) (at : ℕ) → at < length text → drop at text ≡ get_or text at 0 ∷ drop (at + 1) text
+begins_with text at inside = rw add-one (drop-cons text at 0 inside)
 
 pub line_passed :
     (text : List ℕ) (at line : ℕ) → at < length text → at < spec.next_line text at →
     spec.define_of_line text at ≡ None →
     spec.defines_from text at line ≡ spec.defines_from text (spec.next_line text at) (line + 1)
 line_passed text at line inside later none =
-    ap (spec.defines_after text 0 at line) (front text at inside)
+    ap (spec.defines_after text 0 at line) (begins_with text at inside)
     ∙ (rw (none, spec.defines_after) refl ∙ defines-next text at (spec.next_line text at) (line + 1) later)
 
 at_define :
@@ -60,7 +61,7 @@ at_define :
     spec.defines_from text at line ≡
     spec.define_then text start line (spec.closing_brace text start line)
     (λ t. spec.defines_after text (spec.next_line text t.end - (at + 1)) (at + 1) (t.line + 1) (drop (at + 1) text))
-at_define text at line start inside some = ap (spec.defines_after text 0 at line) (front text at inside) ∙ rw (some, spec.defines_after) refl
+at_define text at line start inside some = ap (spec.defines_after text 0 at line) (begins_with text at inside) ∙ rw (some, spec.defines_after) refl
 
 pub define_unclosed :
     (text : List ℕ) (at line start : ℕ) → at < length text → spec.define_of_line text at ≡ Some start →
@@ -123,7 +124,7 @@ lines_are_parts text from to none = by_test (nat_lt from to)
     by_test true = (none, tt)
     by_test false = tt
 
-pub closes_byte : (braces b : ℕ) → spec.closes_body braces b ≡ true → b ≡ 125
+pub closes_byte : (braces b : ℕ) → spec.closes_body braces b ≡ true → b ≡ byte "}"
 unfolding spec.closes_body
 closes_byte braces b h = grind arith
 
@@ -145,7 +146,7 @@ word_found text at start some = by_test (spec.begins_define (drop (at + spec.ind
 
 -- an indent has no line feed
 indent_cons :
-    (b : ℕ) (rest : List ℕ) (t : Bool) → (b == 32 || b == 9) ≡ t → line_feeds (take (spec.indent rest) rest) ≡ 0 →
+    (b : ℕ) (rest : List ℕ) (t : Bool) → (b == byte " " || b == byte "\t") ≡ t → line_feeds (take (spec.indent rest) rest) ≡ 0 →
     line_feeds (take (cond t (1 + spec.indent rest) 0) (b ∷ rest)) ≡ 0
 indent_cons b rest true h left =
     let one : 1 + spec.indent rest ≡ suc (spec.indent rest) = omega arith in
@@ -155,7 +156,7 @@ indent_cons b rest false h left = refl
 
 indent_feeds : (bs : List ℕ) → line_feeds (take (spec.indent bs) bs) ≡ 0
 indent_feeds [] = refl
-indent_feeds (b ∷ rest) = indent_cons b rest (b == 32 || b == 9) refl (indent_feeds rest)
+indent_feeds (b ∷ rest) = indent_cons b rest (b == byte " " || b == byte "\t") refl (indent_feeds rest)
 
 pub word_on_line :
     (text : List ℕ) (at start : ℕ) → WordFound text at start →
@@ -170,34 +171,34 @@ word_on_line text at start w =
 
 -- a line that is not the last one has one line feed
 line_cons :
-    (b : ℕ) (rest : List ℕ) (t : Bool) → (b == 10) ≡ t →
-    cond (not t) (1 + position_or_len (λ c. c == 10) rest) 0 < suc (length rest) →
-    (position_or_len (λ c. c == 10) rest < length rest →
-    line_feeds (take (position_or_len (λ c. c == 10) rest + 1) rest) ≡ 1) →
-    line_feeds (take (cond (not t) (1 + position_or_len (λ c. c == 10) rest) 0 + 1) (b ∷ rest)) ≡ 1
+    (b : ℕ) (rest : List ℕ) (t : Bool) → (b == byte "\n") ≡ t →
+    cond (not t) (1 + position_or_len (λ c. c == byte "\n") rest) 0 < suc (length rest) →
+    (position_or_len (λ c. c == byte "\n") rest < length rest →
+    line_feeds (take (position_or_len (λ c. c == byte "\n") rest + 1) rest) ≡ 1) →
+    line_feeds (take (cond (not t) (1 + position_or_len (λ c. c == byte "\n") rest) 0 + 1) (b ∷ rest)) ≡ 1
 line_cons b rest true h inside left =
     let one : line_feed b ≡ 1 = (rw h refl) in omega arith
 line_cons b rest false h inside left =
-    let n = position_or_len (λ c. c == 10) rest in
+    let n = position_or_len (λ c. c == byte "\n") rest in
     let more : 1 + n + 1 ≡ suc (n + 1) = omega arith in
     let none : line_feed b ≡ 0 = (rw h refl) in
     let rest_feeds : line_feeds (take (n + 1) rest) ≡ 1 = left (omega arith) in
     rw more (omega arith)
 
 line_has_feed :
-    (bs : List ℕ) → position_or_len (λ c. c == 10) bs < length bs →
-    line_feeds (take (position_or_len (λ c. c == 10) bs + 1) bs) ≡ 1
+    (bs : List ℕ) → position_or_len (λ c. c == byte "\n") bs < length bs →
+    line_feeds (take (position_or_len (λ c. c == byte "\n") bs + 1) bs) ≡ 1
 line_has_feed [] inside = absurd (omega arith)
-line_has_feed (b ∷ rest) inside = line_cons b rest (b == 10) refl inside (line_has_feed rest)
+line_has_feed (b ∷ rest) inside = line_cons b rest (b == byte "\n") refl inside (line_has_feed rest)
 
 next_feeds_from :
     (bs : List ℕ) → spec.line_bytes bs < length bs → line_feeds (take (spec.line_bytes bs) bs) ≡ 1
-next_feeds_from bs more = by_test (nat_lt (position_or_len (λ c. c == 10) bs) (length bs)) refl more
+next_feeds_from bs more = by_test (nat_lt (position_or_len (λ c. c == byte "\n") bs) (length bs)) refl more
   where
     by_test :
-        (t : Bool) → nat_lt (position_or_len (λ c. c == 10) bs) (length bs) ≡ t →
-        (elim (cond t (Some (position_or_len (λ c. c == 10) bs)) None) [ None ↦ length bs | Some n ↦ n + 1 ]) < length bs →
-        line_feeds (take (elim (cond t (Some (position_or_len (λ c. c == 10) bs)) None) [ None ↦ length bs | Some n ↦ n + 1 ]) bs) ≡ 1
+        (t : Bool) → nat_lt (position_or_len (λ c. c == byte "\n") bs) (length bs) ≡ t →
+        (elim (cond t (Some (position_or_len (λ c. c == byte "\n") bs)) None) [ None ↦ length bs | Some n ↦ n + 1 ]) < length bs →
+        line_feeds (take (elim (cond t (Some (position_or_len (λ c. c == byte "\n") bs)) None) [ None ↦ length bs | Some n ↦ n + 1 ]) bs) ≡ 1
     by_test true h more = line_has_feed bs (grind arith)
     by_test false h more = absurd (omega arith)
 
@@ -219,25 +220,25 @@ brace_feeds text from line t b =
     let one : t.end - t.start ≡ 1 = (let end = b.one in omega arith) in
     let inside : t.start < length text = (let end = b.one in let within = b.within in omega arith) in
     let none : line_feeds (take (t.end - t.start) (drop t.start text)) ≡ 0 =
-    rw (one, front text t.start inside, b.byte_is) refl in
+    rw (one, begins_with text t.start inside, b.byte_is) refl in
     let feeds = feeds_range text t.start t.end (let end = b.one in omega arith) in
     omega arith
 
 -- the bytes of a line, but for the last one, are no line feeds
-no_feed_inside : (bs : List ℕ) (k : ℕ) → k + 1 < spec.line_bytes bs → k < prefix_len (λ c. not (c == 10)) bs
-no_feed_inside bs k inside = by_test (nat_lt (position_or_len (λ c. c == 10) bs) (length bs)) refl inside
+no_feed_inside : (bs : List ℕ) (k : ℕ) → k + 1 < spec.line_bytes bs → k < prefix_len (λ c. not (c == byte "\n")) bs
+no_feed_inside bs k inside = by_test (nat_lt (position_or_len (λ c. c == byte "\n") bs) (length bs)) refl inside
   where
     by_test :
-        (t : Bool) → nat_lt (position_or_len (λ c. c == 10) bs) (length bs) ≡ t →
-        k + 1 < (elim (cond t (Some (position_or_len (λ c. c == 10) bs)) None) [ None ↦ length bs | Some n ↦ n + 1 ]) →
-        k < prefix_len (λ c. not (c == 10)) bs
+        (t : Bool) → nat_lt (position_or_len (λ c. c == byte "\n") bs) (length bs) ≡ t →
+        k + 1 < (elim (cond t (Some (position_or_len (λ c. c == byte "\n") bs)) None) [ None ↦ length bs | Some n ↦ n + 1 ]) →
+        k < prefix_len (λ c. not (c == byte "\n")) bs
     by_test true h inside = omega arith
     by_test false h inside = grind arith
 
-is_no_feed : (b : ℕ) → not (b == 10) ≡ true → b ≡ 10 → ⊥
+is_no_feed : (b : ℕ) → not (b == byte "\n") ≡ true → b ≡ byte "\n" → ⊥
 is_no_feed b h e = grind arith
 
-is_no_feed_of_indent : (b : ℕ) → (b == 32 || b == 9) ≡ true → b ≡ 10 → ⊥
+is_no_feed_of_indent : (b : ℕ) → (b == byte " " || b == byte "\t") ≡ true → b ≡ byte "\n" → ⊥
 is_no_feed_of_indent b h e = grind arith
 
 pub no_line_inside :
@@ -245,11 +246,11 @@ pub no_line_inside :
 no_line_inside text at q later inside feed =
     let k : ℕ = q - 1 - at in
     let here : at + (q - 1 - at) ≡ q - 1 = omega arith in
-    let short : q - 1 - at < prefix_len (λ c. not (c == 10)) (drop at text) = no_feed_inside (drop at text) (q - 1 - at) (omega arith) in
-    let passes = prefix_len_passes (λ c. not (c == 10)) (drop at text) (q - 1 - at) 0 short in
+    let short : q - 1 - at < prefix_len (λ c. not (c == byte "\n")) (drop at text) = no_feed_inside (drop at text) (q - 1 - at) (omega arith) in
+    let passes = prefix_len_passes (λ c. not (c == byte "\n")) (drop at text) (q - 1 - at) 0 short in
     is_no_feed (get_or text (q - 1) 0) (rw (get_or-drop, here) at passes) feed
 
-is_blank_no_feed : (b : ℕ) → spec.is_space_or_tab b ≡ true → b ≡ 10 → ⊥
+is_blank_no_feed : (b : ℕ) → spec.is_space_or_tab b ≡ true → b ≡ byte "\n" → ⊥
 is_blank_no_feed b h e = is_no_feed_of_indent b h e
 
 -- a line does not begin inside the blanks of another
@@ -260,11 +261,11 @@ begins_no_later text line start at blanks later inside (inl zero_at) = omega ari
 begins_no_later text line start at blanks later inside (inr feed) =
     is_blank_no_feed (get_or text (at - 1) 0) (blanks (at - 1) (omega arith) (omega arith)) feed
 
-first_is_d : (b : ℕ) (rest : List ℕ) → spec.begins_define (b ∷ rest) ≡ true → b ≡ 100
+first_is_d : (b : ℕ) (rest : List ℕ) → spec.begins_define (b ∷ rest) ≡ true → b ≡ byte "d"
 unfolding spec.begins_define
 first_is_d b rest word = go (100 == b) refl word
   where
-    go : (t : Bool) → (100 == b) ≡ t → ((t && starts_with nat_eq rest (codes "efine")) && spec.has_blank 6 (b ∷ rest)) ≡ true → b ≡ 100
+    go : (t : Bool) → (100 == b) ≡ t → ((t && starts_with nat_eq rest (codes "efine")) && spec.has_blank 6 (b ∷ rest)) ≡ true → b ≡ byte "d"
     go true e h = sym (eqb-true 100 b e)
     go false e h = absurd (cc)
 
@@ -363,10 +364,10 @@ none_before_word text from at start line before here q after inside d =
               begins_no_later text at start d.line (blanks_of text at start (word_found text at start here)) later (omega arith) d.begins)
         ]
 
-is_no_brace : (b : ℕ) → b ≡ 125 → b ≡ 10 → ⊥
+is_no_brace : (b : ℕ) → b ≡ byte "}" → b ≡ byte "\n" → ⊥
 is_no_brace b h e = omega arith
 
-is_brace_no_blank : (b : ℕ) → b ≡ 125 → spec.is_space_or_tab b ≡ true → ⊥
+is_brace_no_blank : (b : ℕ) → b ≡ byte "}" → spec.is_space_or_tab b ≡ true → ⊥
 is_brace_no_blank b h e = grind arith
 
 pub none_after_brace :
@@ -398,13 +399,13 @@ none_to_end text from at to ended before q after inside = before q after (omega 
 -- the first line feed
 feed_at : (bs : List ℕ) → position_or_len spec.is_line_feed bs < length bs → get_or bs (position_or_len spec.is_line_feed bs) 0 ≡ 10
 feed_at [] inside = absurd (omega arith)
-feed_at (b ∷ rest) inside = by_test (b == 10) refl inside (feed_at rest)
+feed_at (b ∷ rest) inside = by_test (b == byte "\n") refl inside (feed_at rest)
   where
     by_test :
-        (t : Bool) → (b == 10) ≡ t → cond (not t) (1 + position_or_len spec.is_line_feed rest) 0 < suc (length rest) →
+        (t : Bool) → (b == byte "\n") ≡ t → cond (not t) (1 + position_or_len spec.is_line_feed rest) 0 < suc (length rest) →
         (position_or_len spec.is_line_feed rest < length rest → get_or rest (position_or_len spec.is_line_feed rest) 0 ≡ 10) →
         get_or (b ∷ rest) (cond (not t) (1 + position_or_len spec.is_line_feed rest) 0) 0 ≡ 10
-    by_test true h inside left = eqb-true b 10 h
+    by_test true h inside left = eqb-true b (byte "\n") h
     by_test false h inside left =
         let one : 1 + position_or_len spec.is_line_feed rest ≡ suc (position_or_len spec.is_line_feed rest) = omega arith in
         rw one (left (omega arith))
@@ -451,7 +452,7 @@ next_begins text at inside more =
 
 followed :
     (blanks : List ℕ) (other : ℕ) (rest : List ℕ) →
-    AllByRecursion (λ b. (is_blank b ≡ true) × (b ≢ 10)) blanks → is_blank other ≡ false → other ≢ 59 →
+    AllByRecursion (λ b. (is_blank b ≡ true) × (b ≢ byte "\n")) blanks → is_blank other ≡ false → other ≢ byte ";" →
     spec.is_clear (blanks ++ other ∷ rest) ≡ false
 unfolding is_blank
 followed [] other rest all no_blank no_comment = grind arith
@@ -471,10 +472,10 @@ clear_has_none bs clear more =
 pub unclear_has_more : (bs : List ℕ) → spec.is_clear bs ≡ false → HasMore bs
 unclear_has_more [] unclear = absurd (true≢false unclear)
 unclear_has_more (b ∷ rest) unclear =
-    by_tests (b == 10) (b == 59) (is_blank b) refl refl refl unclear (unclear_has_more rest)
+    by_tests (b == byte "\n") (b == byte ";") (is_blank b) refl refl refl unclear (unclear_has_more rest)
   where
     by_tests :
-        (feed comment blank : Bool) → (b == 10) ≡ feed → (b == 59) ≡ comment → is_blank b ≡ blank →
+        (feed comment blank : Bool) → (b == byte "\n") ≡ feed → (b == byte ";") ≡ comment → is_blank b ≡ blank →
         ((feed || comment) || (blank && spec.is_clear rest)) ≡ false → (spec.is_clear rest ≡ false → HasMore rest) →
         HasMore (b ∷ rest)
     by_tests true comment blank e f g h left = absurd (cc)

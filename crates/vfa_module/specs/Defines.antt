@@ -7,7 +7,7 @@ use Rattle.vfa_ir.specs.Tokens.{is_blank, line_feeds, tokens_from}
 use Rattle.vfa_ir.specs.declared.tokens.Token.{Token}
 use Rattle.vfa_module.specs.declared.items.Item.{Item}
 use Rattle.vfa_module.specs.declared.items.SplitFault.{SplitFault}
-use Rattle.vfa_module.specs.Split.{Cover, begins_define, front_byte, is_global, is_space_or_tab}
+use Rattle.vfa_module.specs.Split.{Cover, begins_define, first_byte, is_global, is_space_or_tab}
 
 -- Braces, as places of tokens
 
@@ -22,7 +22,7 @@ tokens_between ts from to = drop from (take to ts)
 
 -- how many of the tokens are this bracket
 abbrev pub bracket_count : List ℕ → ℕ → List Token → ℕ
-bracket_count text bracket ts = count_by (λ t. front_byte text t == bracket) ts
+bracket_count text bracket ts = count_by (λ t. first_byte text t == bracket) ts
 
 abbrev pub global_count : List Token → ℕ
 global_count ts = count_by (λ t. is_global t.kind) ts
@@ -36,7 +36,7 @@ IsOutside text ts place =
 
 -- an opening brace after a global name and outside of parentheses
 pub record CanOpenBody (text : List ℕ) (ts : List Token) (place : ℕ) : Type 0 where
-  pub brace : IsSomeAnd (slice_get ts place) (λ t. front_byte text t ≡ byte "{")
+  pub brace : IsSomeAnd (slice_get ts place) (λ t. first_byte text t ≡ byte "{")
   pub named : 0 < global_count (tokens_between ts 0 place)
   pub outside : IsOutside text ts place
 

@@ -19,7 +19,7 @@ is_line_feed b = b == byte "\n"
 
 -- Lines
 
--- the spaces and tabs at the front
+-- the spaces and tabs at the beginning
 abbrev pub indent : List ℕ → ℕ
 indent = prefix_len is_space_or_tab
 
@@ -51,8 +51,8 @@ is_clear (b ∷ rest) = is_line_feed b || b == byte ";" || (is_blank b && is_cle
 -- Braces
 
 -- The byte that a token begins with. A token that begins with a bracket is that bracket.
-abbrev pub front_byte : List ℕ → Token → ℕ
-front_byte text t = slice_index text t.start
+abbrev pub first_byte : List ℕ → Token → ℕ
+first_byte text t = slice_index text t.start
 
 abbrev pub is_global : TokenKind → Bool
 is_global TokenKind.Global = true
@@ -79,15 +79,15 @@ closes_body braces b = braces == 0 && b == byte "}"
 abbrev pub closing_of_body : List ℕ → ℕ → List Token → Option Token
 closing_of_body text braces [] = None
 closing_of_body text braces (t ∷ rest) =
-    if closes_body braces (front_byte text t) then Some t
-    else closing_of_body text (braces_after braces (front_byte text t)) rest
+    if closes_body braces (first_byte text t) then Some t
+    else closing_of_body text (braces_after braces (first_byte text t)) rest
 
 -- the same from a place in the header on, after a global name or not, inside so many parentheses
 abbrev pub closing_of_define : List ℕ → Bool → ℕ → List Token → Option Token
 closing_of_define text named parens [] = None
 closing_of_define text named parens (t ∷ rest) =
-    if opens_body named parens (front_byte text t) then closing_of_body text 0 rest
-    else closing_of_define text (named || is_global t.kind) (parens_after parens (front_byte text t)) rest
+    if opens_body named parens (first_byte text t) then closing_of_body text 0 rest
+    else closing_of_define text (named || is_global t.kind) (parens_after parens (first_byte text t)) rest
 
 -- the brace that closes the define whose word stands at the offset, on the line
 abbrev pub closing_brace : List ℕ → ℕ → ℕ → Option Token

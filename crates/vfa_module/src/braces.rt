@@ -6,7 +6,7 @@ ghost use Rattle.vfa_module.specs.Defines.{IsBrace};
 ghost use Rattle.vfa_module.specs.Split as spec;
 
 use vfa_ir::{Token, TokenKind};
-use vfa_lex::{line_behind, token_at};
+use vfa_lex::{line_after, token_at};
 
 /// A place from which on tokens are read.
 #[derive(Clone, Copy, Debug)]
@@ -48,7 +48,7 @@ fn body(bytes: &[u8], start: usize, line: u32) -> Option<Place>
     let mut parens = 0;
     while let Some(token) = token_at(bytes, at, on) {
         at = token.end;
-        on = line_behind(bytes, &token);
+        on = line_after(bytes, &token);
         let first = bytes[token.start];
         if opens_body(named, parens, first) {
             return Some(Place { at, line: on });
@@ -119,7 +119,7 @@ fn closing_of_body(bytes: &[u8], place: Place) -> Option<Token>
     let mut braces = 0;
     while let Some(token) = token_at(bytes, at, line) {
         at = token.end;
-        line = line_behind(bytes, &token);
+        line = line_after(bytes, &token);
         let first = bytes[token.start];
         if closes_body(braces, first) {
             return Some(token);

@@ -6,7 +6,7 @@ ghost use Rattle.vfa_ir.specs.Tokens.{IsPlaced};
 ghost use Rattle.vfa_ir.specs.declared.tokens.Token.{Token};
 ghost use Rattle.vfa_ir.specs.declared.tokens.TokenKind.TheVariants.{Other};
 ghost use Rattle.vfa_module.specs.Defines.{Closes, HasName, IsBadLine, IsDefine, IsSplit, IsUnclosed};
-ghost use Rattle.vfa_module.specs.Split.{closing_of_define, front_byte, split_of};
+ghost use Rattle.vfa_module.specs.Split.{closing_of_define, first_byte, split_of};
 ghost use Rattle.vfa_module.specs.declared.items.Item.{Item};
 ghost use Rattle.vfa_module.specs.declared.items.SplitFault.TheVariants.{BadLine, Unclosed};
 
@@ -24,7 +24,7 @@ pub fn a_define_has_a_name()
 /// A string without a closing quote takes all bytes to the end of the text, so nothing after it closes a define.
 pub fn an_unclosed_string_is_the_rest()
     ensures { (text : List ℕ) (from line : ℕ) (t : Token) → IsPlaced text from line t →
-        front_byte text t ≡ byte "\"" → t.kind ≡ Other → t.end ≡ length text }
+        first_byte text t ≡ byte "\"" → t.kind ≡ Other → t.end ≡ length text }
 {}
 
 /// A text splits into the one list of items that covers it.

@@ -5,7 +5,7 @@ ghost use Rattle.vfa_module.specs.Split as spec;
 
 use vfa_ir::is_blank;
 
-/// How many spaces and tabs stand at the front.
+/// How many spaces and tabs stand at the beginning.
 fn indent(bytes: &[u8]) -> usize
     ensures count { result ≡ spec.indent bytes.now }
     ensures within { result ≤ length bytes.now }

@@ -2,6 +2,7 @@
 
 ghost use Rattle.std.specs.Prelude.{◌≡◌, ◌≤◌, ◌++◌, length, Ok, Err, IfOk, IfErr};
 ghost use Rattle.std.specs.List.{AllByRecursion};
+ghost use Rattle.vfa_ir.specs.Limits.{most_bytes};
 ghost use Rattle.vfa_module.specs.Defines.{AreApart, Fails, IsPart};
 ghost use Rattle.vfa_module.specs.Split as spec;
 
@@ -23,7 +24,7 @@ use std::alloc::{AllocError, Global};
 /// `source_filename = "a"`, a line feed, `define i8 @f() { ret i8 0 }` and a line feed give the first line, the define
 /// and the last line feed.
 pub fn split(alloc: Global, bytes: &[u8]) -> Result<Vec<Item>, SplitFault>
-    requires { length bytes.now ≤ 16777216 }
+    requires { length bytes.now ≤ most_bytes }
     ensures items { IfOk result (λ items. spec.split_of bytes.now ≡ Ok items.items) }
     ensures fault { IfErr result (λ fault. spec.MemoryOr fault (spec.split_of bytes.now ≡ Err fault)) }
     ensures cover { IfOk result (λ items. spec.Cover 0 (length bytes.now) items.items) }

@@ -5,7 +5,7 @@ use Rattle.vfa_module.proofs.braces.body.Given as goal
 
 abbrev pub invariant-loop-token : goal.invariant-loop-token
 invariant-loop-token l = record {
-  behind : l.fn.start ≤ l.at;
+  after : l.fn.start ≤ l.at;
   within : l.at ≤ length l.bytes;
   lines : l.on + l.fn.start ≤ l.fn.line + l.at;
   parens : l.parens ≤ l.at;

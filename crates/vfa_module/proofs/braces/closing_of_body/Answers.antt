@@ -1,10 +1,10 @@
 use Rattle.std.proofs.Common.{◌∙◌, refl, sym, arith}
-use Rattle.vfa_ir.proofs.Reading.{behind_feeds, behind_line, brace_end, placed_feeds, placed_line}
+use Rattle.vfa_ir.proofs.Reading.{line_after_feeds, line_after_most, brace_end, placed_feeds, placed_line}
 use Rattle.vfa_module.proofs.Steps.{body_step, closes_byte}
 use Rattle.vfa_module.proofs.braces.closing_of_body.Goals as goal
 
-pub line_behind-line-requires-clause-lines : goal.line_behind-line-requires-clause-lines
-line_behind-line-requires-clause-lines c =
+pub line_after-line-requires-clause-lines : goal.line_after-line-requires-clause-lines
+line_after-line-requires-clause-lines c =
     let on = placed_line _ _ _ _ c.in-Some.ensures.placed in let placed = c.in-Some.ensures.placed in omega arith
 
 pub returns-then-closes_body-clause-bound : goal.returns-then-closes_body-clause-bound
@@ -27,13 +27,13 @@ returns-then-closes_body-clause-found c =
 pub loop-token-preserved : goal.loop-token-preserved
 loop-token-preserved c =
     let placed = c.in-Some.ensures.placed in
-    let on = behind_line _ _ _ _ placed in
-    let line = c.line_behind-line.ensures in
-    let feeds = behind_feeds _ _ _ _ placed in
+    let on = line_after_most _ _ _ _ placed in
+    let line = c.line_after-line.ensures in
+    let feeds = line_after_feeds _ _ _ _ placed in
     let bound = c.braces_after-braces.ensures.bound in
     let count = c.braces_after-braces.ensures.count in
     record {
-      behind = omega arith;
+      after = omega arith;
       within = placed.within;
       lines = omega arith;
       braces = omega arith;

@@ -5,7 +5,7 @@ use Rattle.vfa_module.proofs.braces.closing_of_body.Given as goal
 
 abbrev pub invariant-loop-token : goal.invariant-loop-token
 invariant-loop-token l = record {
-  behind : l.fn.place.at ≤ l.at;
+  after : l.fn.place.at ≤ l.at;
   within : l.at ≤ length l.bytes;
   lines : l.line + l.fn.place.at ≤ l.fn.place.line + l.at;
   braces : l.braces ≤ l.at;
