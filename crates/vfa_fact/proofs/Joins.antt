@@ -15,32 +15,24 @@ use Rattle.vfa_fact.specs.Sharp.{sharp_of, sharp_in}
 use Rattle.vfa_fact.proofs.SharpSets.{sharp_alike, sharp_none_tells}
 use Rattle.vfa_fact.proofs.SharpArcs.{sharp_in_has}
 
-with_test : (c a t : Bool) → t ≡ true → (a && (c && t)) ≡ (a && c)
-with_test c a t e = grind arith
-
--- m and s are the masks and the arc of the join, before they sharpen each other, and T is a test that all numbers pass
-module _ (w : ℕ) (a b : Numbers) (m : Masks) (s : Span) (T : ℕ → Bool) (arc : IsArc w s) (right : s ≡ hull_in w a b) (left : m ≡ alike a b)
-    (all : (x : ℕ) → x < 2 ^ w → T x ≡ true) where
-  pub joined_is : sharp_in w s (meet (in_masks w m) T) ≡ join_of w a b
-  unfolding join_of meet
+-- m and s are the masks and the arc of the join, before they sharpen each other
+module _ (w : ℕ) (a b : Numbers) (m : Masks) (s : Span) (arc : IsArc w s) (right : s ≡ hull_in w a b) (left : m ≡ alike a b) where
+  pub joined_is : sharp_in w s (in_masks w m) ≡ join_of w a b
+  unfolding join_of
   joined_is =
-      sharp_alike w s.first _ (λ x. in_span w s x && in_masks w m x) arc.first_fits (λ x fits. with_test (in_masks w m x) (in_span w s x) (T x) (all x fits))
-      ∙ ap (λ (k : Masks). sharp_of w s.first (λ x. in_span w s x && in_masks w k x)) left
-      ∙ ap (λ (t : Span). sharp_of w t.first (λ x. in_span w t x && in_masks w (alike a b) x)) right
+      ap (λ (k : Masks). sharp_in w s (in_masks w k)) left
+      ∙ ap (λ (t : Span). sharp_in w t (in_masks w (alike a b))) right
 
   -- a number of the masks and the arc is one of the fact
-  in_join : (x : ℕ) → x < 2 ^ w → in_masks w m x ≡ true → in_span w s x ≡ true → meet (in_span w s) (meet (in_masks w m) T) x ≡ true
-  in_join x fits cube here = meet_from (in_span w s) (meet (in_masks w m) T) x here (meet_from (in_masks w m) T x cube (all x fits))
-
-  pub some_joined : (x : ℕ) → x < 2 ^ w → in_masks w m x ≡ true → in_span w s x ≡ true → sharp_in w s (meet (in_masks w m) T) ≡ None → ⊥
+  pub some_joined : (x : ℕ) → x < 2 ^ w → in_masks w m x ≡ true → in_span w s x ≡ true → sharp_in w s (in_masks w m) ≡ None → ⊥
   some_joined x fits cube here none =
-      true≢false (sym (in_join x fits cube here) ∙ sharp_none_tells w s.first (meet (in_span w s) (meet (in_masks w m) T)) arc.first_fits none x fits)
+      true≢false (sym (meet_from (in_span w s) (in_masks w m) x here cube)
+      ∙ sharp_none_tells w s.first (meet (in_span w s) (in_masks w m)) arc.first_fits none x fits)
 
-  pub joined_has : (n : Numbers) → sharp_in w s (meet (in_masks w m) T) ≡ Some n →
+  pub joined_has : (n : Numbers) → sharp_in w s (in_masks w m) ≡ Some n →
       (x : ℕ) → x < 2 ^ w → in_masks w m x ≡ true → in_span w s x ≡ true → in_numbers w n x ≡ true
   unfolding in_option
-  joined_has n is x fits cube here =
-      sharp_in_has w s (meet (in_masks w m) T) arc (Some n) (sym is) x fits here (meet_from (in_masks w m) T x cube (all x fits))
+  joined_has n is x fits cube here = sharp_in_has w s (in_masks w m) arc (Some n) (sym is) x fits here cube
 
 pub hull_left : (w : ℕ) (a b : Numbers) (s : Span) (x : ℕ) → IsArc w (span_in a) → IsArc w (span_in b) → s ≡ hull_in w a b → in_span w (span_in a) x ≡ true → in_span w s x ≡ true
 hull_left w a b s x left right same member = ap (λ (t : Span). in_span w t x) same ∙ hull_holds_left w (span_in a) (span_in b) x left right member

@@ -1,9 +1,11 @@
-ghost use Rattle.std.specs.Prelude.{◌≡◌, ◌≢◌, ℕ, ◌<◌, ◌^◌, ◌&&◌, IsTrue, IsSomeAnd, IfSome};
+ghost use Rattle.std.specs.Prelude.{◌≡◌, ◌≢◌, ℕ, ◌<◌, ◌^◌, ◌&&◌, IsTrue, IsSomeAnd, IfSome, Some};
 ghost use Rattle.std.specs.Int.{bit_at};
 ghost use Rattle.std.specs.Option.{option_map};
 ghost use Rattle.vfa_fact.specs.Cells.{IsCell, in_cell, joined_numbers, joined_cells, decided_cells, compared_cells};
 ghost use Rattle.vfa_fact.specs.CellCuts.{shown_cell_ends, shown_cell_amounts, cell_ends, cell_amounts, cell_divisors};
 ghost use Rattle.vfa_fact.specs.Compare.{satisfies};
+ghost use Rattle.vfa_fact.specs.Fact.{IsFact};
+ghost use Rattle.vfa_fact.specs.Join.{join_of};
 ghost use Rattle.vfa_word.specs.Numbers.{IsWidth};
 ghost use Rattle.vfa_wrap.specs.Between.{Between, AreEnds};
 ghost use Rattle.vfa_wrap.specs.Ends.{shown_ends};
@@ -15,19 +17,26 @@ use vfa_dom::Domain;
 use vfa_ir::Pred;
 use vfa_wrap::Ends;
 
-/// The numbers of two cells of width `W` together.
-fn join_at<const W: u32>(a: &Cell, b: &Cell) -> Option<Numbers>
-    requires left { a.now.width ≡ W }
-    requires right { b.now.width ≡ W }
-    ensures { result ≡ joined_numbers a.now.width a.now.numbers b.now.numbers }
+/// The numbers of the join of two facts of width `W`.
+fn join_at<const W: u32>(a: &Numbers, b: &Numbers) -> Numbers
+    requires width { IsWidth W }
+    requires left { IsFact W a.now }
+    requires right { IsFact W b.now }
+    ensures { Some result ≡ join_of W a.now b.now }
 {
-    let Some(one) = a.typed::<W>() else {
-        return b.numbers;
-    };
-    let Some(two) = b.typed::<W>() else {
-        return a.numbers;
-    };
-    Some(one.join(&two).numbers())
+    Fact::<W>::from_numbers(a)
+        .join(&Fact::from_numbers(b))
+        .numbers()
+}
+
+/// The numbers of the join of two facts of one width.
+fn joined(width: u32, a: &Numbers, b: &Numbers) -> Numbers
+    requires width { IsWidth width }
+    requires left { IsFact width a.now }
+    requires right { IsFact width b.now }
+    ensures { Some result ≡ join_of width a.now b.now }
+{
+    at_width!(width, join_at, (a, b))
 }
 
 /// The numbers of two cells of one width together.
@@ -35,10 +44,16 @@ fn numbers_of_both(a: &Cell, b: &Cell) -> Option<Numbers>
     requires { a.now.width ≡ b.now.width }
     ensures { result ≡ joined_numbers a.now.width a.now.numbers b.now.numbers }
 {
-    if a.numbers == b.numbers {
+    let Some(one) = &a.numbers else {
+        return b.numbers;
+    };
+    let Some(two) = &b.numbers else {
+        return a.numbers;
+    };
+    if one == two {
         return a.numbers;
     }
-    at_width!(a.width, join_at, (a, b))
+    Some(joined(a.width, one, two))
 }
 
 /// What the comparison of two cells of width `W` answers.

@@ -5,6 +5,7 @@ ghost use Rattle.vfa_fact.specs.Join.{join_of};
 ghost use Rattle.vfa_word.specs.Numbers.{IsWidth};
 
 use crate::fact::Fact;
+use crate::sharp::sharpened;
 use crate::test::Test;
 use vfa_dom::{Domain, SetOf};
 use vfa_known::Known;
@@ -66,7 +67,7 @@ impl<const W: u32> Domain<W> for Fact<W> {
     {
         let alike = self.known.join(&other.known);
         let hull = self.arc.hull(&other.arc);
-        let Some(joined) = Fact::sharp(alike, hull, &Test::any()) else {
+        let Some(joined) = sharpened(&alike, &hull) else {
             unreachable!()
         };
         joined

@@ -4,7 +4,10 @@ ghost use Rattle.vfa_dom.specs.Sets.{meet};
 ghost use Rattle.vfa_fact.specs.Fact.{IsFact};
 ghost use Rattle.vfa_fact.specs.Interval.{part_of, joined};
 ghost use Rattle.vfa_fact.specs.Sharp.{sharp_in};
+ghost use Rattle.vfa_fact.specs.Views.{numbers_of};
+ghost use Rattle.vfa_known.specs.Known.{in_known};
 ghost use Rattle.vfa_word.specs.Numbers.{IsWidth};
+ghost use Rattle.vfa_wrap.specs.Wrapped.{span_of};
 
 use crate::fact::Fact;
 use crate::numbers::Numbers;
@@ -31,31 +34,51 @@ fn both_parts(one: Option<Numbers>, two: Option<Numbers>) -> Option<Numbers>
     })
 }
 
+/// The sharp numbers from `low` up to `high` that agree with the known bits.
+fn between<const W: u32>(cube: &Known<W>, low: u128, high: u128) -> Option<Numbers>
+    requires low_fits { low < 2 ^ W }
+    requires high_fits { high < 2 ^ W }
+    requires width { IsWidth W }
+    ensures { result ≡ part_of W low high (in_known W cube.now) }
+{
+    let first = cube.first_at_or_after(low)?;
+    let last = cube.last_at_or_before(high)?;
+    if last < first {
+        return None;
+    }
+    // what lies between has the bits of both ends above the highest place where they differ, and any below
+    let turn = ((first ^ last) | 1).ilog2();
+    Some(Numbers {
+        zeros: cube.zeros() | (((most::<W>() ^ last) >> turn) << turn),
+        ones: cube.ones() | ((first >> turn) << turn),
+        first,
+        last,
+    })
+}
+
+/// The sharp numbers of the arc's numbers that agree with the known bits.
+fn numbers_within<const W: u32>(cube: &Known<W>, arc: &Wrapped<W>) -> Option<Numbers>
+    ensures { result ≡ sharp_in W (span_of arc.now) (in_known W cube.now) }
+{
+    let first = arc.first().bits();
+    let last = arc.last().bits();
+    if first <= last {
+        return between(cube, first, last);
+    }
+    both_parts(between(cube, first, most::<W>()), between(cube, 0, last))
+}
+
+/// The fact of the arc's numbers that agree with the known bits.
+pub(crate) fn sharpened<const W: u32>(cube: &Known<W>, arc: &Wrapped<W>) -> Option<Fact<W>>
+    ensures { option_map numbers_of result ≡ sharp_in W (span_of arc.now) (in_known W cube.now) }
+{
+    let numbers = numbers_within(cube, arc)?;
+    Some(Fact::from_numbers(&numbers))
+}
+
 impl<const W: u32> Test<W> {
     ghost use Rattle.vfa_known.specs.Known.{in_known};
     ghost use Rattle.vfa_wrap.specs.Wrapped.{span_of, in_arc};
-
-    /// The sharp numbers of the cube's members from `low` up to `high`.
-    fn in_cube(&self, low: u128, high: u128) -> Option<Numbers>
-        requires low_fits { low < 2 ^ W }
-        requires high_fits { high < 2 ^ W }
-        requires width { IsWidth W }
-        ensures { result ≡ part_of W low high (in_known W self.now.cube) }
-    {
-        let first = self.cube.first_at_or_after(low)?;
-        let last = self.cube.last_at_or_before(high)?;
-        if last < first {
-            return None;
-        }
-        // what lies between has the bits of both ends above the highest place where they differ, and any below
-        let turn = ((first ^ last) | 1).ilog2();
-        Some(Numbers {
-            zeros: self.cube.zeros() | (((most::<W>() ^ last) >> turn) << turn),
-            ones: self.cube.ones() | ((first >> turn) << turn),
-            first,
-            last,
-        })
-    }
 
     /// The same of the numbers that are in the arc `one` too.
     pub(crate) fn in_one(&self, low: u128, high: u128) -> Option<Numbers>
@@ -69,9 +92,12 @@ impl<const W: u32> Test<W> {
         let from = low.max(first);
         let upto = high.min(last);
         if first <= last {
-            return self.in_cube(from, upto);
+            return between(&self.cube, from, upto);
         }
-        both_parts(self.in_cube(low, upto), self.in_cube(from, high))
+        both_parts(
+            between(&self.cube, low, upto),
+            between(&self.cube, from, high),
+        )
     }
 
     /// The same of the numbers that are in both arcs too.
