@@ -105,8 +105,8 @@ first_at n (x ∷ before) rest h = go (bytes_eq n x) h (first_at n before rest)
     go true e again = absurd (omega arith)
     go false e again = let k = again (omega arith) in omega arith
 
-pub place_behind : (n : List ℕ) (before rest : List (List ℕ)) → occurs n before ≡ 0 → place_of (before ++ (n ∷ rest)) n ≡ length before
-place_behind n before rest h =
+pub place_after : (n : List ℕ) (before rest : List (List ℕ)) → occurs n before ≡ 0 → place_of (before ++ (n ∷ rest)) n ≡ length before
+place_after n before rest h =
     let long : length (before ++ (n ∷ rest)) ≡ length before + suc (length rest) = length-append before (n ∷ rest) in
     place_at (bytes_eq n) (before ++ (n ∷ rest)) (length before) (first_at n before rest h) (omega arith)
 
@@ -119,7 +119,7 @@ places_from all before (x ∷ rest) e once =
     let most : occurs x all ≤ 1 = once x in
     let parts : occurs x all ≡ occurs x before + (one_if (bytes_eq x x) + occurs x rest) = ap (occurs x) e ∙ occurs-append x before (x ∷ rest) in
     let one : one_if (bytes_eq x x) ≡ 1 = ap one_if (same_itself x) in
-    let here : place_of all x ≡ length before = ap (λ z. place_of z x) e ∙ place_behind x before rest (omega arith) in
+    let here : place_of all x ≡ length before = ap (λ z. place_of z x) e ∙ place_after x before rest (omega arith) in
     let again = places_from all (before ++ (x ∷ [])) rest (e ∙ sym (append_assoc before (x ∷ []) rest)) once in
     let long : length (before ++ (x ∷ [])) ≡ length before + 1 = length-append before (x ∷ []) in
     ap (λ i. i ∷ map (place_of all) rest) here ∙ ap (λ r. length before ∷ r) (again ∙ ap (λ i. range_with_len i (length rest)) long)

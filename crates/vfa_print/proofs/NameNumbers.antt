@@ -45,39 +45,39 @@ digits_stay :
     list_all is_ascii_digit (digits_onto k 10 false n acc) ≡ true
 digits_stay zero n acc h = h
 digits_stay (suc k) n acc h =
-    let front : List ℕ = digit_glyph false (n % 10) ∷ acc in
+    let prefix : List ℕ = digit_glyph false (n % 10) ∷ acc in
     let small : n % 10 < 10 = omega arith in
-    let all : list_all is_ascii_digit front ≡ true =
+    let all : list_all is_ascii_digit prefix ≡ true =
     ap (λ b. b && list_all is_ascii_digit acc) (glyph_is_digit (n % 10) small) ∙ h in
-    by (n / 10 == 0) front all (digits_stay k (n / 10) front all)
+    by (n / 10 == 0) prefix all (digits_stay k (n / 10) prefix all)
   where
     by :
-        (b : Bool) (front : List ℕ) → list_all is_ascii_digit front ≡ true →
-        list_all is_ascii_digit (digits_onto k 10 false (n / 10) front) ≡ true →
-        list_all is_ascii_digit (if b then front else digits_onto k 10 false (n / 10) front) ≡ true
-    by true front all left = all
-    by false front all left = left
+        (b : Bool) (prefix : List ℕ) → list_all is_ascii_digit prefix ≡ true →
+        list_all is_ascii_digit (digits_onto k 10 false (n / 10) prefix) ≡ true →
+        list_all is_ascii_digit (if b then prefix else digits_onto k 10 false (n / 10) prefix) ≡ true
+    by true prefix all left = all
+    by false prefix all left = left
 
 digits_grow : (k n : ℕ) (acc : List ℕ) → length acc ≤ length (digits_onto k 10 false n acc)
 digits_grow zero n acc = omega arith
 digits_grow (suc k) n acc =
-    let front : List ℕ = digit_glyph false (n % 10) ∷ acc in by (n / 10 == 0) front (omega arith) (digits_grow k (n / 10) front)
+    let prefix : List ℕ = digit_glyph false (n % 10) ∷ acc in by (n / 10 == 0) prefix (omega arith) (digits_grow k (n / 10) prefix)
   where
     by :
-        (b : Bool) (front : List ℕ) → length acc ≤ length front → length front ≤ length (digits_onto k 10 false (n / 10) front) →
-        length acc ≤ length (if b then front else digits_onto k 10 false (n / 10) front)
-    by true front more left = more
-    by false front more left = omega (arith, more, left)
+        (b : Bool) (prefix : List ℕ) → length acc ≤ length prefix → length prefix ≤ length (digits_onto k 10 false (n / 10) prefix) →
+        length acc ≤ length (if b then prefix else digits_onto k 10 false (n / 10) prefix)
+    by true prefix more left = more
+    by false prefix more left = omega (arith, more, left)
 
 digits_some : (k n : ℕ) → 0 < length (digits_onto (suc k) 10 false n [])
 digits_some k n = by (n / 10 == 0)
   where
-    front : List ℕ
-    front = digit_glyph false (n % 10) ∷ []
+    prefix : List ℕ
+    prefix = digit_glyph false (n % 10) ∷ []
 
-    by : (b : Bool) → 0 < length (if b then front else digits_onto k 10 false (n / 10) front)
+    by : (b : Bool) → 0 < length (if b then prefix else digits_onto k 10 false (n / 10) prefix)
     by true = omega arith
-    by false = let more = digits_grow k (n / 10) front in omega (arith, more)
+    by false = let more = digits_grow k (n / 10) prefix in omega (arith, more)
 
 are_digits : (ds : List ℕ) → 0 < length ds → list_all is_ascii_digit ds ≡ true → is_digits ds ≡ true
 are_digits [] h d = absurd (omega arith)

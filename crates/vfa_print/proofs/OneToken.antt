@@ -1,20 +1,20 @@
 -- The text of a lexeme is read as that lexeme.
-use Rattle.std.proofs.Common.{◌≡◌, ℕ, suc, ◌+◌, ◌-◌, ◌==◌, ◌||◌, ◌&&◌, nat_lt, Bool, true, false, not, cond, List, [], ◌∷◌, ◌++◌, length, take, flat_map, Some, IsTrue, refl, sym, subst, ap, ◌∙◌, arith, lt-ltb, eqb-true, length-append}
+use Rattle.std.proofs.Common.{◌≡◌, ℕ, suc, ◌+◌, ◌-◌, ◌==◌, ◌||◌, nat_lt, Bool, true, false, not, cond, List, [], ◌∷◌, ◌++◌, length, take, flat_map, Some, codes, IsTrue, refl, sym, subst, ap, ◌∙◌, arith, lt-ltb, eqb-true, length-append}
 use Rattle.std.proofs.Math.Seq.{take-append_seam, take-length}
 use Rattle.std.proofs.lemmas.Bool.{and_parts, not-true}
 use Rattle.std.proofs.lemmas.Bool.Decides.{nat_tests}
 use Rattle.std.specs.Char.{is_ascii_digit}
-use Rattle.std.specs.List.{prefix_len, list_all}
+use Rattle.std.specs.List.{AllByRecursion, prefix_len, list_all}
 use Rattle.vfa_ir.specs.Lexemes.{Lexeme, local, global, label, number, word, mark}
 use Rattle.vfa_ir.specs.TokenLexemes.{lexeme_of, quoted_name, written_name}
-use Rattle.vfa_ir.specs.Tokens.{Piece, token, piece_of, is_blank, is_bracket, is_digit, is_letter, is_run_byte, is_mark, group, has_colon, meta, name_len, named, or_label, quoted, quoted_len, run_len, run_of}
-use Rattle.vfa_ir.specs.Tokens as Tokens
+use Rattle.vfa_ir.specs.Tokens.{token, piece_of, is_blank, is_bracket, is_run_byte, is_mark, has_colon, name_len, after_sigil, or_label, quoted, quoted_len, run_len, run_of}
 use Rattle.vfa_ir.specs.Words as Words
-use Rattle.vfa_ir.specs.Words.{is_digits}
+use Rattle.vfa_ir.specs.Words.{is_digits, is_in}
 use Rattle.vfa_ir.specs.declared.tokens.TokenKind.{TokenKind}
 use Rattle.vfa_print.proofs.Ending.{ends_token, is_firm, piece_stops, stops, inside, quoted_stops}
 use Rattle.vfa_print.proofs.Found.{Gives, gives_token}
-use Rattle.vfa_print.proofs.Lexed.{IsLexed, IsRunWord}
+use Rattle.vfa_print.proofs.LanguageWords.{digit_runs}
+use Rattle.vfa_print.proofs.Lexed.{IsLexed, IsRunWord, is_printed_mark}
 use Rattle.vfa_print.proofs.QuotedNames.{no_quote, decoded_name, name_unquoted}
 use Rattle.vfa_print.specs.Layout.{is_plain, byte_text, quoted_text, name_text, lexeme_text}
 
@@ -50,36 +50,12 @@ no_colon [] = refl
 no_colon (b ∷ xs) = no_colon xs
 
 -- digits
-same_digit : (b : ℕ) → is_ascii_digit b ≡ is_digit b
-unfolding is_digit
-same_digit b = refl
-
-digit_runs : (b : ℕ) → is_digit b ≡ true → is_run_byte b ≡ true
-unfolding is_run_byte
-digit_runs b h = grind arith
-
-record AreDigits (xs : List ℕ) : Type 0 where
-  digits : list_all is_digit xs ≡ true
-  runs : list_all is_run_byte xs ≡ true
-
-are_digits : (xs : List ℕ) → list_all is_ascii_digit xs ≡ true → AreDigits xs
-are_digits [] h = record { digits = refl; runs = refl }
-are_digits (b ∷ xs) h =
-    let parts : (is_ascii_digit b ≡ true) × (list_all is_ascii_digit xs ≡ true) = and_parts _ _ h in
-    let here : is_digit b ≡ true = sym (same_digit b) ∙ parts.0 in
-    let run : is_run_byte b ≡ true = digit_runs b here in
-    let rest : AreDigits xs = are_digits xs parts.1 in
-    let digits : list_all is_digit xs ≡ true = rest.digits in
-    let runs : list_all is_run_byte xs ≡ true = rest.runs in
-    record { digits = rw (here, digits) refl; runs = rw (run, runs) refl }
-
 digits_plain : (name : List ℕ) → is_digits name ≡ true → is_plain name ≡ true
 digits_plain [] h = cc
 digits_plain (b ∷ name) h =
-    let all : AreDigits (b ∷ name) = are_digits (b ∷ name) h in
-    let digits : list_all is_digit (b ∷ name) ≡ true = all.digits in
-    let runs : list_all is_run_byte (b ∷ name) ≡ true = all.runs in
-    rw (runs, digits) (by_test (is_digit b))
+    let digits : list_all is_ascii_digit (b ∷ name) ≡ true = h in
+    let runs : list_all is_run_byte (b ∷ name) ≡ true = digit_runs (b ∷ name) h in
+    rw (runs, digits) (by_test (is_ascii_digit b))
   where
     by_test : (t : Bool) → (not t || true) ≡ true
     by_test true = refl
@@ -101,7 +77,7 @@ other_byte b k h e = by_test (b == k) refl
     by_test false is = refl
 
 pub run_piece : (b : ℕ) (rest : List ℕ) → is_run_byte b ≡ true → piece_of b rest ≡ run_of b rest
-unfolding piece_of is_blank is_run_byte is_letter is_digit
+unfolding piece_of is_blank is_run_byte
 run_piece b rest h =
     let other : (k : ℕ) → is_run_byte k ≡ false → (b == k) ≡ false = λ k e. other_byte b k h e in
     let no_blank : is_blank b ≡ false = rw (other 32 refl, other 9 refl, other 13 refl, other 10 refl) refl in
@@ -117,7 +93,7 @@ not_zero : (n : ℕ) → (suc n == 0) ≡ false
 not_zero n = grind (arith, nat_tests)
 
 plain_is_name : (b : ℕ) (name : List ℕ) → list_all is_run_byte (b ∷ name) ≡ true → IsName (b ∷ name) (b ∷ name)
-unfolding is_run_byte is_letter is_digit
+unfolding is_run_byte
 plain_is_name b name h =
     let parts : (is_run_byte b ≡ true) × (list_all is_run_byte name ≡ true) = and_parts _ _ h in
     let other : (b == 34) ≡ false = other_byte b 34 parts.0 refl in
@@ -158,18 +134,18 @@ name_is name some = by_test (is_plain name) refl
     by_test false h = quoted_is_name name some (not_digits name h)
 
 local_alone : (text name : List ℕ) → IsName text name → piece_of 37 text ≡ token TokenKind.Local (length text)
-unfolding piece_of is_blank named
+unfolding piece_of is_blank after_sigil
 local_alone text name n = rw (n.whole, n.some) refl
 
 global_alone : (text name : List ℕ) → IsName text name → piece_of 64 text ≡ token TokenKind.Global (length text)
-unfolding piece_of is_blank named
+unfolding piece_of is_blank after_sigil
 global_alone text name n = rw (n.whole, n.some) refl
 
 -- labels
 plain_label :
     (b : ℕ) (name : List ℕ) → list_all is_run_byte (b ∷ name) ≡ true →
     piece_of b (name ++ 58 ∷ []) ≡ token TokenKind.Label (length (name ++ 58 ∷ []))
-unfolding run_of or_label is_run_byte is_letter is_digit
+unfolding run_of or_label is_run_byte
 plain_label b name h =
     let parts : (is_run_byte b ≡ true) × (list_all is_run_byte name ≡ true) = and_parts _ _ h in
     let to : run_len (name ++ 58 ∷ []) ≡ length name = prefix_to is_run_byte name 58 parts.1 refl in
@@ -194,26 +170,6 @@ quoted_label name =
     string_label (inner ++ 34 ∷ []) (string_len name ∙ ap Some (sym (pushed inner 34)))
 
 -- numbers and words
-all_same : (xs : List ℕ) → list_all is_ascii_digit xs ≡ list_all is_digit xs
-all_same [] = refl
-all_same (b ∷ xs) = rw (all_same xs, same_digit b) refl
-
-shared : (x y z : Bool) → ((x || y) && z) ≡ ((x && z) || (y && z))
-shared true y true = refl
-shared true true false = refl
-shared true false false = refl
-shared false y z = refl
-
-alone : (x y : Bool) → x ≡ ((x && true) || (y && false))
-alone true y = refl
-alone false true = refl
-alone false false = refl
-
-same_number : (b : ℕ) (more : List ℕ) → Tokens.is_number b more ≡ Words.is_number (b ∷ more)
-unfolding is_digit
-same_number b [] = alone (is_digit b) (b == 45)
-same_number b (c ∷ more) = rw (all_same more) (shared (is_digit b) (b == 45) (is_digit c && list_all is_digit more))
-
 run_alone :
     (b : ℕ) (more : List ℕ) → list_all is_run_byte (b ∷ more) ≡ true →
     piece_of b more ≡ token (cond (Words.is_number (b ∷ more)) TokenKind.Number TokenKind.Word) (length more)
@@ -222,7 +178,7 @@ run_alone b more h =
     let parts : (is_run_byte b ≡ true) × (list_all is_run_byte more ≡ true) = and_parts _ _ h in
     let to : run_len more ≡ length more = prefix_whole is_run_byte more parts.1 in
     let colon : has_colon (length more) more ≡ false = no_colon more in
-    run_piece b more parts.0 ∙ rw (to, colon, take-length more, same_number b more) refl
+    run_piece b more parts.0 ∙ rw (to, colon, take-length more) refl
 
 either : (x y : Bool) → (x || y) ≡ true → (x ≡ false) → y ≡ true
 either true y h e = cc
@@ -230,10 +186,10 @@ either false y h e = h
 
 digits_run : (text : List ℕ) → is_digits text ≡ true → list_all is_run_byte text ≡ true
 digits_run [] h = cc
-digits_run (b ∷ text) h = let all : AreDigits (b ∷ text) = are_digits (b ∷ text) h in all.runs
+digits_run (b ∷ text) h = digit_runs (b ∷ text) h
 
 number_runs : (text : List ℕ) → IsTrue (Words.is_number text) → list_all is_run_byte text ≡ true
-unfolding is_run_byte is_letter is_digit
+unfolding is_run_byte
 number_runs [] h = cc
 number_runs (b ∷ text) h = by_test (is_digits (b ∷ text)) refl
   where
@@ -247,26 +203,20 @@ number_runs (b ∷ text) h = by_test (is_digits (b ∷ text)) refl
         signed parts.0 (digits_run text parts.1)
 
 -- marks
-abbrev pub is_printed_mark : ℕ → Bool
-is_printed_mark c = is_bracket c || c == 44 || c == 61
-
 pub or_case : (P : Type 0) (x y : Bool) → (x || y) ≡ true → (x ≡ true → P) → (y ≡ true → P) → P
 or_case P true y h p q = p refl
 or_case P false y h p q = q h
 
+-- what holds of each of these bytes holds of one that is among them
+pub each_in : (P : ℕ → Type 0) (c : ℕ) (ks : List ℕ) → is_in c ks ≡ true → AllByRecursion P ks → P c
+each_in P c [] h all = cc
+each_in P c (k ∷ ks) h all =
+    or_case (P c) (c == k) (is_in c ks) h (λ e. subst P (sym (eqb-true c k e)) all.0) (λ more. each_in P c ks more all.1)
+
 mark_alone : (c : ℕ) (rest : List ℕ) → IsTrue (is_printed_mark c) → piece_of c rest ≡ token TokenKind.Mark 0
-unfolding piece_of is_blank is_run_byte is_letter is_digit is_mark is_bracket
+unfolding piece_of is_blank is_run_byte is_mark is_bracket
 mark_alone c rest h =
-    let P : ℕ → Type 0 = λ k. piece_of k rest ≡ token TokenKind.Mark 0 in
-    let at : (k : ℕ) → P k → (c == k) ≡ true → P c = λ k p e. subst P (sym (eqb-true c k e)) p in
-    or_case (P c) (is_bracket c || c == 44) (c == 61) h
-    (λ more. or_case (P c) (is_bracket c) (c == 44) more
-    (λ more. or_case (P c) (c == 40 || c == 41 || c == 91 || c == 93 || c == 123) (c == 125) more
-    (λ more. or_case (P c) (c == 40 || c == 41 || c == 91 || c == 93) (c == 123) more
-    (λ more. or_case (P c) (c == 40 || c == 41 || c == 91) (c == 93) more
-    (λ more. or_case (P c) (c == 40 || c == 41) (c == 91) more
-    (λ more. or_case (P c) (c == 40) (c == 41) more (at 40 refl) (at 41 refl)) (at 91 refl)) (at 93 refl)) (at 123 refl))
-    (at 125 refl)) (at 44 refl)) (at 61 refl)
+    each_in (λ k. piece_of k rest ≡ token TokenKind.Mark 0) c (codes "()[]{},=") h (refl, (refl, (refl, (refl, (refl, (refl, (refl, (refl, tt))))))))
 
 -- what has to follow a lexeme: nothing more than a mark, or what ends a token
 abbrev pub Follows : Lexeme → List ℕ → Type 0

@@ -2,9 +2,9 @@
 use Rattle.std.proofs.Common.{◌≡◌, ℕ, ◌+◌, ◌*◌, ◌/◌, ◌%◌, ◌<◌, ◌==◌, nat_lt, Bool, true, false, not, cond, List, [], ◌∷◌, ◌++◌, flat_map, refl, ap, ◌∙◌, arith}
 use Rattle.std.proofs.lemmas.Bool.Decides.{nat_tests}
 use Rattle.std.proofs.lemmas.List.Folds.{list_all-append}
+use Rattle.std.specs.Char.{is_ascii_hexdigit}
 use Rattle.std.specs.List.{list_all}
-use Rattle.vfa_ir.specs.Names.{decoded, is_hex_digit, hex_value}
-use Rattle.vfa_ir.specs.Tokens.{is_digit}
+use Rattle.vfa_ir.specs.Names.{decoded, hex_value}
 use Rattle.vfa_print.specs.Layout.{hex_digit, is_escaped, byte_text}
 
 -- a byte that closes no string
@@ -12,13 +12,13 @@ abbrev pub no_quote : ℕ → Bool
 no_quote b = not (b == 34)
 
 record IsHexDigit (n c : ℕ) : Type 0 where
-  hex : is_hex_digit c ≡ true
+  hex : is_ascii_hexdigit c ≡ true
   value : hex_value c ≡ n
   no_quote : no_quote c ≡ true
   no_slash : (c == 92) ≡ false
 
 hex_small : (n : ℕ) → nat_lt n 10 ≡ true → IsHexDigit n (48 + n)
-unfolding is_hex_digit hex_value is_digit
+unfolding hex_value
 hex_small n h = record {
   hex = grind (arith, nat_tests);
   value = grind (arith, nat_tests);
@@ -27,7 +27,7 @@ hex_small n h = record {
 }
 
 hex_large : (n : ℕ) → n < 16 → nat_lt n 10 ≡ false → IsHexDigit n (55 + n)
-unfolding is_hex_digit hex_value is_digit
+unfolding hex_value
 hex_large n small h = record {
   hex = grind (arith, nat_tests);
   value = grind (arith, nat_tests);

@@ -244,13 +244,13 @@ no_repeat name (y ∷ names) h = ap (λ b. b || is_among name names) h.0 ∙ no_
 distinct_parts : (xs ys : List (List ℕ)) → IsDistinct bytes_eq (xs ++ ys) → IsDistinct bytes_eq xs × IsDistinct bytes_eq ys
 unfolding IsDistinct
 distinct_parts [] ys h = (tt, h)
-distinct_parts (x ∷ xs) ys h = let p = distinct_parts xs ys h.1 in ((front xs h.0, p.0), p.1)
+distinct_parts (x ∷ xs) ys h = let p = distinct_parts xs ys h.1 in ((prefix xs h.0, p.0), p.1)
   where
-    front :
+    prefix :
         (zs : List (List ℕ)) → AllByRecursion (λ y. bytes_eq x y ≡ false) (zs ++ ys) →
         AllByRecursion (λ y. bytes_eq x y ≡ false) zs
-    front [] h = tt
-    front (z ∷ zs) h = (h.0, front zs h.1)
+    prefix [] h = tt
+    prefix (z ∷ zs) h = (h.0, prefix zs h.1)
 
 -- no name is in both of two parts
 in_one_part :

@@ -4,7 +4,7 @@ ghost use Rattle.std.specs.Prelude.{◌≡◌, ◌++◌, ℕ, codes, flat_map, m
 ghost use Rattle.vfa_ir.specs.declared.functions.Term.{Term as TermOf};
 ghost use Rattle.vfa_ir.specs.declared.operations.BlockId.{BlockId as BlockIdOf};
 ghost use Rattle.vfa_ir.specs.Spelling.{switch_case as case_tokens, typed as typed_tokens};
-ghost use Rattle.vfa_print.specs.Layout.{indented, switch_front as first_tokens, text_line, terminator_text};
+ghost use Rattle.vfa_print.specs.Layout.{indented, switch_head as first_tokens, text_line, terminator_text};
 ghost use Rattle.vfa_print.specs.Trees.{block_name_at, case_tree, operand_tree, term_tree};
 ghost use Rattle.vfa_print.specs.Writing.{with_tokens};
 
