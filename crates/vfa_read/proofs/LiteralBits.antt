@@ -25,17 +25,6 @@ plain_absurd w c text digits is plain most none fits =
 least_is : (v m : ℕ) → neg_ℤ (pos m) ≤ℤ neg_ℤ (pos v) → v ≤ m
 least_is v m h = omega (arith, ints)
 
-pub minus_at_most : (w c : ℕ) (text digits : List ℕ) → text ≡ c ∷ digits → c ≡ 45 → IsNumberOf w text → digits_value 10 digits ≤ 2 ^ w
-minus_at_most w c text digits is minus fits =
-    let n : IsNumberOf w (45 ∷ digits) = subst (λ z. IsNumberOf w (z ∷ digits)) minus (subst (IsNumberOf w) is fits) in
-    let low = least_is (digits_value 10 digits) (2 ^ (w - 1)) n.in_range.least in
-    let more = pow_mono {i = w - 1} {j = w} (omega arith) in
-    omega arith
-
 negative_bits : (w v : ℕ) → 0 < v → 2 ^ w - 1 - (v - 1) ≡ bits_of w (neg_ℤ (pos v))
 negative_bits w zero h = omega arith
 negative_bits w (suc k) h = let e : suc k - 1 ≡ k = omega arith in ap (λ m. 2 ^ w - 1 - m) e
-
-pub minus_bits : (w c v : ℕ) (text digits : List ℕ) → text ≡ c ∷ digits → c ≡ 45 → v ≡ digits_value 10 digits → 0 < v → 2 ^ w - 1 - (v - 1) ≡ bits_of w (number_value text)
-minus_bits w c v text digits is minus value some =
-    negative_bits w v some ∙ ap (λ z. bits_of w (neg_ℤ (pos z))) value ∙ sym (ap (λ t. bits_of w (number_value t)) (is ∙ ap (λ z. z ∷ digits) minus))

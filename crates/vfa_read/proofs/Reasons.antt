@@ -24,8 +24,8 @@ take_shorter (suc p) zero xs h = absurd (omega (arith, h))
 take_shorter (suc p) (suc q) [] h = refl
 take_shorter (suc p) (suc q) (x ∷ xs) h = ap (λ z. x ∷ z) (take_shorter p q xs (omega (arith, h)))
 
-begins_shorter : (front more : List Lexeme) → BeginsSentence (front ++ more) → BeginsSentence front
-begins_shorter front more b = record { sentence = b.sentence; rest = more ++ b.rest; is = subst (λ z. IsSentence z b.sentence) (append_assoc front more b.rest) b.is }
+begins_shorter : (prefix more : List Lexeme) → BeginsSentence (prefix ++ more) → BeginsSentence prefix
+begins_shorter prefix more b = record { sentence = b.sentence; rest = more ++ b.rest; is = subst (λ z. IsSentence z b.sentence) (append_assoc prefix more b.rest) b.is }
 
 begins_before : (p q : ℕ) (found : List Lexeme) → p ≤ q → BeginsSentence (take q found) → BeginsSentence (take p found)
 begins_before p q found h b = begins_shorter (take p found) (drop p (take q found)) (subst BeginsSentence (take_shorter p q found h) b)

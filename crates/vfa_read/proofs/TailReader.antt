@@ -2,6 +2,7 @@
 use Rattle.std.proofs.Common.{◌≡◌, ℕ, zero, suc, ◌+◌, ◌-◌, Bool, true, false, not, ◌&&◌, ◌==◌, nat_lt, List, [], ◌∷◌, ◌++◌, replicate, length, if◌then◌else◌, Option, Some, None, Result, Ok, Err, IsTrue, refl, sym, ap, ◌∙◌, subst, arith, eqb-true, add-one, true≢false}
 use Rattle.std.specs.List.{AllByRecursion}
 use Rattle.std.proofs.lemmas.Bool.Decides.{nat_tests}
+use Rattle.std.specs.Str.{byte}
 use Rattle.vfa_ir.specs.Lexemes.{Lexeme, local, global, label, nameless_local, nameless_global, nameless_label, metadata, group, number, mark, word, string, other}
 use Rattle.vfa_ir.specs.Grammar.{may_follow_parameters, is_balanced}
 use Rattle.vfa_read.specs.Headers.{Place, opens, closes, stands, leaves, place_of, with_lexeme, tail_end, tail_from}
@@ -98,16 +99,16 @@ record Got (n : ℕ) (ts rest t : List Lexeme) : Type 0 where
   fits : TailFits n t
   ends : may (tail_follow t) rest ≡ true
 
-record Behind (l : Lexeme) (r : Result (List Lexeme × List Lexeme) ℕ) (t rest : List Lexeme) : Type 0 where
+record Continued (l : Lexeme) (r : Result (List Lexeme × List Lexeme) ℕ) (t rest : List Lexeme) : Type 0 where
   more : List Lexeme
   read_is : r ≡ Ok (more, rest)
   whole : l ∷ more ≡ t
 
-behind : (l : Lexeme) (r : Result (List Lexeme × List Lexeme) ℕ) (t rest : List Lexeme) → with_lexeme l r ≡ Ok (t, rest) → Behind l r t rest
-behind l (Ok p) t rest e = record { more = p.0; read_is = ap (λ z. Ok (p.0, z)) (ok_rest (l ∷ p.0, p.1) (t, rest) e); whole = ok_value (l ∷ p.0, p.1) (t, rest) e }
-behind l (Err k) t rest e = cc
+continued : (l : Lexeme) (r : Result (List Lexeme × List Lexeme) ℕ) (t rest : List Lexeme) → with_lexeme l r ≡ Ok (t, rest) → Continued l r t rest
+continued l (Ok p) t rest e = record { more = p.0; read_is = ap (λ z. Ok (p.0, z)) (ok_rest (l ∷ p.0, p.1) (t, rest) e); whole = ok_value (l ∷ p.0, p.1) (t, rest) e }
+continued l (Err k) t rest e = cc
 
-got_more : (n m : ℕ) (l : Lexeme) (ls rest t : List Lexeme) (b : Behind l (tail_from m ls) t rest) → may_follow_parameters l ≡ true → ((u : List Lexeme) → is_balanced m u ≡ true → is_balanced n (l ∷ u) ≡ true) → Got m ls rest b.more → Got n (l ∷ ls) rest t
+got_more : (n m : ℕ) (l : Lexeme) (ls rest t : List Lexeme) (b : Continued l (tail_from m ls) t rest) → may_follow_parameters l ≡ true → ((u : List Lexeme) → is_balanced m u ≡ true → is_balanced n (l ∷ u) ≡ true) → Got m ls rest b.more → Got n (l ∷ ls) rest t
 got_more n m l ls rest t b a h g = subst (Got n (l ∷ ls) rest) b.whole (record {
   parts = ap (λ z. l ∷ z) g.parts;
   fits = ((a, g.fits.0), h b.more g.fits.1);
@@ -136,14 +137,14 @@ got (l ∷ ls) n rest t e = by_place (place_of l) refl (says l) n e (λ m u g. g
   where
     by_place : (p : Place) → place_of l ≡ p → Says l p → (n : ℕ) → tail_from n (l ∷ ls) ≡ Ok (t, rest) → ((m : ℕ) (u : List Lexeme) → tail_from m ls ≡ Ok (u, rest) → Got m ls rest u) → Got n (l ∷ ls) rest t
     by_place opens p (says_opens a h) n e hyp =
-        let b = behind l (tail_from (suc n) ls) t rest (sym (step_opens l ls n p) ∙ e) in
+        let b = continued l (tail_from (suc n) ls) t rest (sym (step_opens l ls n p) ∙ e) in
         got_more n (suc n) l ls rest t b a (opened n l h) (hyp (suc n) b.more b.read_is)
     by_place closes p (says_closes a h) zero e hyp = absurd (err_ok (sym (step_closed l ls p) ∙ e))
     by_place closes p (says_closes a h) (suc n) e hyp =
-        let b = behind l (tail_from n ls) t rest (sym (step_closes l ls n p) ∙ e) in
+        let b = continued l (tail_from n ls) t rest (sym (step_closes l ls n p) ∙ e) in
         got_more (suc n) n l ls rest t b a (closed n l h) (hyp n b.more b.read_is)
     by_place stands p (says_stands a h) n e hyp =
-        let b = behind l (tail_from n ls) t rest (sym (step_stands l ls n p) ∙ e) in
+        let b = continued l (tail_from n ls) t rest (sym (step_stands l ls n p) ∙ e) in
         got_more n n l ls rest t b a (λ u k. h n u ∙ k) (hyp n b.more b.read_is)
     by_place leaves p (says_leaves a) n e hyp = end_got n (l ∷ ls) rest t (ap not a) (sym (step_leaves l ls n p) ∙ e)
 
@@ -178,7 +179,7 @@ again (l ∷ t) n rest f m = by_place (place_of l) refl (says l) n f.1 (λ k b. 
 -- where it stops
 
 abbrev closing : ℕ → List Lexeme
-closing n = replicate n (mark 41)
+closing n = replicate n (mark (byte ")"))
 
 closing_fits : (n : ℕ) → TailFits n (closing n)
 closing_fits zero = (tt, refl)
@@ -196,11 +197,11 @@ unfinished zero k e = let no = sym e in absurd (err_ok no)
 unfinished (suc n) k e =
     let stopped : tail_end (suc n) [] ≡ Err 0 = (let z = not_zero n in rw z refl) in
     let same = err_same (sym stopped ∙ e) in
-    record { front = []; back = []; parts = refl; left = same; value = closing (suc n); fits = closing_fits (suc n); more = closing (suc n); viable = refl; firm = λ b rest other h. cc }
+    record { prefix = []; back = []; parts = refl; left = same; value = closing (suc n); fits = closing_fits (suc n); more = closing (suc n); viable = refl; firm = λ b rest other h. cc }
 
 bad_here : (n : ℕ) (l : Lexeme) (ls : List Lexeme) (k : ℕ) → suc (length ls) ≡ k → ((other : List Lexeme) → tail_from n (l ∷ other) ≡ Err (suc (length other))) → StopsTail n (l ∷ ls) k
 bad_here n l ls k e h = record {
-  front = [];
+  prefix = [];
   back = l ∷ ls;
   parts = refl;
   left = e;
@@ -213,7 +214,7 @@ bad_here n l ls k e h = record {
 
 later : (n m : ℕ) (l : Lexeme) (ls : List Lexeme) (k : ℕ) → may_follow_parameters l ≡ true → ((u : List Lexeme) → is_balanced m u ≡ true → is_balanced n (l ∷ u) ≡ true) → ((us : List Lexeme) → tail_from n (l ∷ us) ≡ with_lexeme l (tail_from m us)) → StopsTail m ls k → StopsTail n (l ∷ ls) k
 later n m l ls k a h step s = record {
-  front = l ∷ s.front;
+  prefix = l ∷ s.prefix;
   back = s.back;
   parts = ap (λ z. l ∷ z) s.parts;
   left = s.left;
@@ -221,26 +222,26 @@ later n m l ls k a h step s = record {
   fits = ((a, s.fits.0), h s.value s.fits.1);
   more = s.more;
   viable = ap (λ z. l ∷ z) s.viable;
-  firm = λ b rest other q. step (s.front ++ (b ∷ other)) ∙ ap (with_lexeme l) (s.firm b rest other q);
+  firm = λ b rest other q. step (s.prefix ++ (b ∷ other)) ∙ ap (with_lexeme l) (s.firm b rest other q);
 }
 
 stops : (ts : List Lexeme) (n k : ℕ) → tail_from n ts ≡ Err k → StopsTail n ts k
 stops [] n k e = unfinished n k (sym (no_more n) ∙ e)
 stops (l ∷ ls) n k e = by_place (place_of l) refl (says l) n e (λ m q. stops ls m k q)
   where
-    behind_err : (r : Result (List Lexeme × List Lexeme) ℕ) → with_lexeme l r ≡ Err k → r ≡ Err k
-    behind_err r q = made_err r (λ p. (l ∷ p.0, p.1)) k q
+    after_err : (r : Result (List Lexeme × List Lexeme) ℕ) → with_lexeme l r ≡ Err k → r ≡ Err k
+    after_err r q = made_err r (λ p. (l ∷ p.0, p.1)) k q
 
     by_place : (p : Place) → place_of l ≡ p → Says l p → (n : ℕ) → tail_from n (l ∷ ls) ≡ Err k → ((m : ℕ) → tail_from m ls ≡ Err k → StopsTail m ls k) → StopsTail n (l ∷ ls) k
     by_place opens p (says_opens a h) n e hyp =
-        later n (suc n) l ls k a (opened n l h) (λ us. step_opens l us n p) (hyp (suc n) (behind_err (tail_from (suc n) ls) (sym (step_opens l ls n p) ∙ e)))
+        later n (suc n) l ls k a (opened n l h) (λ us. step_opens l us n p) (hyp (suc n) (after_err (tail_from (suc n) ls) (sym (step_opens l ls n p) ∙ e)))
     by_place closes p (says_closes a h) zero e hyp =
         let same = err_same (sym (step_closed l ls p) ∙ e) in
         bad_here zero l ls k same (λ other. step_closed l other p)
     by_place closes p (says_closes a h) (suc n) e hyp =
-        later (suc n) n l ls k a (closed n l h) (λ us. step_closes l us n p) (hyp n (behind_err (tail_from n ls) (sym (step_closes l ls n p) ∙ e)))
+        later (suc n) n l ls k a (closed n l h) (λ us. step_closes l us n p) (hyp n (after_err (tail_from n ls) (sym (step_closes l ls n p) ∙ e)))
     by_place stands p (says_stands a h) n e hyp =
-        later n n l ls k a (λ u q. h n u ∙ q) (λ us. step_stands l us n p) (hyp n (behind_err (tail_from n ls) (sym (step_stands l ls n p) ∙ e)))
+        later n n l ls k a (λ u q. h n u ∙ q) (λ us. step_stands l us n p) (hyp n (after_err (tail_from n ls) (sym (step_stands l ls n p) ∙ e)))
     by_place leaves p (says_leaves a) zero e hyp = absurd (err_ok (sym e ∙ step_leaves l ls zero p))
     by_place leaves p (says_leaves a) (suc n) e hyp =
         let stopped : (us : List Lexeme) → tail_from (suc n) (l ∷ us) ≡ Err (suc (length us)) = λ us. (let z = not_zero n in step_leaves l us (suc n) p ∙ rw z refl) in
