@@ -1,6 +1,5 @@
 -- Names that stand once, and their places.
-use Rattle.std.proofs.Common.{◌≡◌, ◌∙◌, ℕ, suc, ◌+◌, ◌<◌, ◌≤◌, Bool, true, false, not, ◌||◌, cond, nat_lt, List, [], ◌∷◌, ◌++◌, length, map, if◌then◌else◌, Some, None, unwrap_or, bytes_eq, refl, sym, ap, subst, arith, append_assoc, length-append, true≢false}
-use Rattle.std.proofs.lemmas.Bool.Decides.{nat_tests}
+use Rattle.std.proofs.Common.{◌≡◌, ◌∙◌, ℕ, suc, ◌+◌, ◌<◌, ◌≤◌, Bool, true, false, not, ◌||◌, cond, nat_lt, List, [], ◌∷◌, ◌++◌, length, map, if◌then◌else◌, Some, None, unwrap_or, bytes_eq, refl, sym, ap, subst, arith, append_assoc, length-append, true≢false, lt-ltb}
 use Rattle.std.proofs.lemmas.Slice.Eq.{bytes_eq-Decides}
 use Rattle.std.specs.List.{AllByRecursion, IsDistinct, position, position_or_len, range_with_len}
 use Rattle.vfa_ir.specs.DefinedNames.{first_repeated}
@@ -76,11 +75,8 @@ distinct_once (x ∷ xs) once =
 -- the place of a name
 place_at : (p : List ℕ → Bool) (xs : List (List ℕ)) (i : ℕ) → position_or_len p xs ≡ i → i < length xs → unwrap_or (position p xs) 0 ≡ i
 place_at p xs i e h =
-    let inside : nat_lt (position_or_len p xs) (length xs) ≡ true = (rw e (lt_true i (length xs) h)) in
+    let inside : nat_lt (position_or_len p xs) (length xs) ≡ true = (rw e (lt-ltb i (length xs) h)) in
     rw (inside) e
-  where
-    lt_true : (a b : ℕ) → a < b → nat_lt a b ≡ true
-    lt_true a b h = grind (arith, nat_tests)
 
 among_at : (n : List ℕ) (xs : List (List ℕ)) → is_among n xs ≡ true → position_or_len (bytes_eq n) xs < length xs
 among_at n [] h = absurd (true≢false (sym h))

@@ -4,6 +4,7 @@ use Rattle.std.specs.Char.{is_ascii_digit}
 use Rattle.std.specs.List.{prefix_len}
 use Rattle.std.proofs.lemmas.List.{take-append-le}
 use Rattle.std.proofs.lemmas.List.Sums.{prefix_len-le-length}
+use Rattle.std.specs.Str.{byte}
 use Rattle.vfa_ir.specs.Tokens.{Piece, gap, token, piece_of, is_blank, is_run_byte, is_mark, group, has_colon, line_len, meta, name_len, after_sigil, or_label, quoted, quoted_len, run_len, run_of}
 use Rattle.vfa_ir.specs.declared.tokens.TokenKind.{TokenKind}
 use Rattle.vfa_ir.specs.declared.tokens.TokenKind.TheVariants as Kind
@@ -11,7 +12,7 @@ use Rattle.vfa_ir.specs.declared.tokens.TokenKind.TheVariants as Kind
 -- the bytes begin with none that lengthens a run, a number or a label
 abbrev pub ends_token : List ℕ → Bool
 ends_token [] = true
-ends_token (b ∷ _) = not (is_run_byte b || b == 58)
+ends_token (b ∷ _) = not (is_run_byte b || b == byte ":")
 
 -- A piece that the bytes after its first decide alone: a comment with an end, or a token that is neither unknown
 -- nor begun by `!`.
@@ -19,7 +20,7 @@ abbrev pub is_firm : ℕ → List ℕ → Piece → Bool
 is_firm b prefix (gap more) = nat_lt more (length prefix) || is_blank b
 is_firm b prefix (token Kind.Other _) = false
 is_firm b prefix (token Kind.Meta _) = false
-is_firm b prefix (token Kind.Mark _) = not (b == 33)
+is_firm b prefix (token Kind.Mark _) = not (b == byte "!")
 is_firm b prefix (token _ _) = true
 
 neither : (x y : Bool) → not (x || y) ≡ true → (x ≡ false) × (y ≡ false)
@@ -82,7 +83,7 @@ or_label_stops kind more prefix rest h within = rw (colon_stops prefix rest more
 
 -- strings
 abbrev pub inside : List ℕ → ℕ
-inside bs = prefix_len (λ b. not (b == 34)) bs
+inside bs = prefix_len (λ b. not (b == byte "\"")) bs
 
 closed :
     (prefix : List ℕ) (n : ℕ) → quoted_len prefix ≡ Some n → (inside prefix < length prefix) × (n ≡ inside prefix + 1)
@@ -98,7 +99,7 @@ pub quoted_stops : (prefix rest : List ℕ) (n : ℕ) → quoted_len prefix ≡ 
 quoted_stops prefix rest n h =
     let c : (inside prefix < length prefix) × (n ≡ inside prefix + 1) = closed prefix n h in
     let within : inside prefix < length prefix = c.0 in
-    let same : inside (prefix ++ rest) ≡ inside prefix = stopped (λ b. not (b == 34)) prefix rest within in
+    let same : inside (prefix ++ rest) ≡ inside prefix = stopped (λ b. not (b == byte "\"")) prefix rest within in
     let long : length (prefix ++ rest) ≡ length prefix + length rest = length-append prefix rest in
     let test : nat_lt (inside prefix) (length (prefix ++ rest)) ≡ true = lt-ltb _ _ (omega arith) in
     rw (same, test) (ap Some (sym c.1))
@@ -112,7 +113,7 @@ after_sigil_stops b kind prefix rest h firm = by_test (name_len prefix == 0) ref
   where
     name_stops : (bs : List ℕ) → (name_len bs == 0) ≡ false → name_len (bs ++ rest) ≡ name_len bs
     name_stops [] e = cc
-    name_stops (c ∷ bs) e = by_quote (c == 34) (quoted_len bs) refl e
+    name_stops (c ∷ bs) e = by_quote (c == byte "\"") (quoted_len bs) refl e
       where
         by_quote :
             (t : Bool) (o : Option ℕ) → quoted_len bs ≡ o →
@@ -162,13 +163,13 @@ left_of : (x y : Bool) → (x || y) ≡ true → y ≡ false → x ≡ true
 left_of true y h e = refl
 left_of false y h e = cc
 
-meta_firm : (b : ℕ) (prefix : List ℕ) → (b == 33) ≡ true → IsTrue (is_firm b prefix (meta prefix)) → ⊥
+meta_firm : (b : ℕ) (prefix : List ℕ) → (b == byte "!") ≡ true → IsTrue (is_firm b prefix (meta prefix)) → ⊥
 unfolding meta
 meta_firm b prefix e firm = by_test (run_len prefix == 0) firm
   where
     by_test :
         (t : Bool) → IsTrue (is_firm b prefix (cond t (token TokenKind.Mark 0) (token TokenKind.Meta (run_len prefix)))) → ⊥
-    by_test true f = let none : not (b == 33) ≡ false = ap not e in cc
+    by_test true f = let none : not (b == byte "!") ≡ false = ap not e in cc
     by_test false f = cc
 
 pub piece_stops :
@@ -178,19 +179,19 @@ unfolding piece_of
 piece_stops b prefix rest h =
     let P : Piece → Piece → Type 0 = λ x y. IsTrue (is_firm b prefix y) → x ≡ y in
     pick P (is_blank b) _ _ _ _ (λ _ f. refl)
-    (λ blank. pick P (b == 59) _ _ _ _ (λ _ f. comment blank f)
-    (λ _. pick P (b == 37) _ _ _ _ (λ _ f. after_sigil_stops b _ prefix rest h f)
-    (λ _. pick P (b == 64) _ _ _ _ (λ _ f. after_sigil_stops b _ prefix rest h f)
-    (λ _. pick P (b == 33) _ _ _ _ (λ e f. exclamation e f)
-    (λ _. pick P (b == 35) _ _ _ _ (λ _ f. group_stops prefix rest h)
-    (λ _. pick P (b == 34) _ _ _ _ (λ _ f. string_stops b prefix rest h f)
+    (λ blank. pick P (b == byte ";") _ _ _ _ (λ _ f. comment blank f)
+    (λ _. pick P (b == byte "%") _ _ _ _ (λ _ f. after_sigil_stops b _ prefix rest h f)
+    (λ _. pick P (b == byte "@") _ _ _ _ (λ _ f. after_sigil_stops b _ prefix rest h f)
+    (λ _. pick P (b == byte "!") _ _ _ _ (λ e f. exclamation e f)
+    (λ _. pick P (b == byte "#") _ _ _ _ (λ _ f. group_stops prefix rest h)
+    (λ _. pick P (b == byte "\"") _ _ _ _ (λ _ f. string_stops b prefix rest h f)
     (λ _. pick P (is_run_byte b) _ _ _ _ (λ _ f. run_of_stops b prefix rest h)
     (λ _. pick P (is_mark b) _ _ _ _ (λ _ f. refl) (λ _ f. refl)))))))))
   where
     comment : is_blank b ≡ false → IsTrue (is_firm b prefix (gap (line_len prefix))) → gap (line_len (prefix ++ rest)) ≡ gap (line_len prefix)
     comment blank f =
         let within : line_len prefix < length prefix = ltb-true _ _ (left_of _ _ f blank) in
-        ap gap (stopped (λ c. not (c == 10)) prefix rest within)
+        ap gap (stopped (λ c. not (c == byte "\n")) prefix rest within)
 
-    exclamation : (b == 33) ≡ true → IsTrue (is_firm b prefix (meta prefix)) → meta (prefix ++ rest) ≡ meta prefix
+    exclamation : (b == byte "!") ≡ true → IsTrue (is_firm b prefix (meta prefix)) → meta (prefix ++ rest) ≡ meta prefix
     exclamation e f = absurd (meta_firm b prefix e f)

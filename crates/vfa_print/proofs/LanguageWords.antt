@@ -4,6 +4,7 @@ use Rattle.std.specs.List.{list_all}
 use Rattle.std.specs.Char.{is_ascii_alphabetic, is_ascii_digit}
 use Rattle.std.proofs.lemmas.Slice.Eq.{bytes_eq-Decides}
 use Rattle.std.proofs.lemmas.Fmt.{decimal_is_IsNumeral_wide}
+use Rattle.std.specs.Str.{byte}
 use Rattle.vfa_ir.specs.declared.operations.Bin.{Bin}
 use Rattle.vfa_ir.specs.declared.operations.Cast.{Cast}
 use Rattle.vfa_ir.specs.declared.operations.Pred.{Pred}
@@ -175,5 +176,5 @@ type_run width h =
     let small : width < 10 ^ 64 = omega arith in
     let digits = all_digits (decimal width) (decimal_is_IsNumeral_wide width small).0.1 in
     let runs : list_all is_run_byte (decimal width) ≡ true = digit_runs (decimal width) digits in
-    let all : list_all is_run_byte (105 ∷ decimal width) ≡ true = ap (λ b. b && list_all is_run_byte (decimal width)) letter_run ∙ runs in
+    let all : list_all is_run_byte (byte "i" ∷ decimal width) ≡ true = ap (λ b. b && list_all is_run_byte (decimal width)) letter_run ∙ runs in
     record { some = λ e. cc; runs = all; no_number = refl }

@@ -2,6 +2,7 @@
 use Rattle.std.proofs.Common.{◌≡◌, ◌∙◌, ℕ, ◌+◌, ◌-◌, ◌==◌, Bool, true, false, List, [], ◌∷◌, ◌++◌, length, take, drop, map, flat_map, filter_map, All, if◌then◌else◌, Option, Some, None, unwrap_or, decimal, count_by, refl, sym, ap, subst, true≢false}
 use Rattle.std.proofs.lemmas.List.Elements.{All-from_recursion}
 use Rattle.std.specs.List.{AllByRecursion, cons_option, join_by}
+use Rattle.std.specs.Str.{byte}
 use Rattle.vfa_ir.specs.declared.syntax.BasicBlock.{BasicBlock}
 use Rattle.vfa_ir.specs.declared.syntax.Instruction.{Instruction}
 use Rattle.vfa_ir.specs.declared.syntax.Parameter.{Parameter}
@@ -49,7 +50,7 @@ quoted_some (c ∷ cs) = go (is_digits (c ∷ cs))
 
 written_some : (text : List ℕ) → IfNamed (written_name text)
 written_some [] = tt
-written_some (c ∷ cs) = go (c == 34)
+written_some (c ∷ cs) = go (c == byte "\"")
   where
     go : (b : Bool) → IfNamed (if b then quoted_name (decoded (take (length cs - 1) cs)) else Some (c ∷ cs))
     go true = quoted_some (decoded (take (length cs - 1) cs))

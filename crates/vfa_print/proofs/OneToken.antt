@@ -5,6 +5,7 @@ use Rattle.std.proofs.lemmas.Bool.{and_parts, not-true}
 use Rattle.std.proofs.lemmas.Bool.Decides.{nat_tests}
 use Rattle.std.specs.Char.{is_ascii_digit}
 use Rattle.std.specs.List.{AllByRecursion, prefix_len, list_all}
+use Rattle.std.specs.Str.{byte}
 use Rattle.vfa_ir.specs.Lexemes.{Lexeme, local, global, label, number, word, mark}
 use Rattle.vfa_ir.specs.TokenLexemes.{lexeme_of, quoted_name, written_name}
 use Rattle.vfa_ir.specs.Tokens.{token, piece_of, is_blank, is_bracket, is_run_byte, is_mark, has_colon, name_len, after_sigil, or_label, quoted, quoted_len, run_len, run_of}
@@ -41,7 +42,7 @@ but_last xs b =
     let less : length xs + 1 - 1 ≡ length xs = omega arith in
     rw (long, less) (take-append_seam xs (b ∷ []))
 
-colon_last : (xs : List ℕ) → has_colon (length xs) (xs ++ 58 ∷ []) ≡ true
+colon_last : (xs : List ℕ) → has_colon (length xs) (xs ++ byte ":" ∷ []) ≡ true
 colon_last [] = refl
 colon_last (b ∷ xs) = colon_last xs
 
@@ -80,8 +81,8 @@ pub run_piece : (b : ℕ) (rest : List ℕ) → is_run_byte b ≡ true → piece
 unfolding piece_of is_blank is_run_byte
 run_piece b rest h =
     let other : (k : ℕ) → is_run_byte k ≡ false → (b == k) ≡ false = λ k e. other_byte b k h e in
-    let no_blank : is_blank b ≡ false = rw (other 32 refl, other 9 refl, other 13 refl, other 10 refl) refl in
-    rw (no_blank, other 59 refl, other 37 refl, other 64 refl, other 33 refl, other 35 refl, other 34 refl, h) refl
+    let no_blank : is_blank b ≡ false = rw (other (byte " ") refl, other (byte "\t") refl, other (byte "\r") refl, other (byte "\n") refl) refl in
+    rw (no_blank, other (byte ";") refl, other (byte "%") refl, other (byte "@") refl, other (byte "!") refl, other (byte "#") refl, other (byte "\"") refl, h) refl
 
 -- What a name is written as, without a sigil.
 record IsName (text name : List ℕ) : Type 0 where
@@ -96,15 +97,15 @@ plain_is_name : (b : ℕ) (name : List ℕ) → list_all is_run_byte (b ∷ name
 unfolding is_run_byte
 plain_is_name b name h =
     let parts : (is_run_byte b ≡ true) × (list_all is_run_byte name ≡ true) = and_parts _ _ h in
-    let other : (b == 34) ≡ false = other_byte b 34 parts.0 refl in
+    let other : (b == byte "\"") ≡ false = other_byte b (byte "\"") parts.0 refl in
     let long : run_len (b ∷ name) ≡ length (b ∷ name) = prefix_whole is_run_byte (b ∷ name) h in
     record { whole = rw other long; some = not_zero (length name); back = rw other refl }
 
-string_len : (name : List ℕ) → quoted_len (flat_map byte_text name ++ 34 ∷ []) ≡ Some (length (flat_map byte_text name) + 1)
+string_len : (name : List ℕ) → quoted_len (flat_map byte_text name ++ byte "\"" ∷ []) ≡ Some (length (flat_map byte_text name) + 1)
 string_len name =
     let inner : List ℕ = flat_map byte_text name in
-    let to : inside (inner ++ 34 ∷ []) ≡ length inner = prefix_to no_quote inner 34 (name_unquoted name) refl in
-    let long : length (inner ++ 34 ∷ []) ≡ length inner + 1 = pushed inner 34 in
+    let to : inside (inner ++ byte "\"" ∷ []) ≡ length inner = prefix_to no_quote inner (byte "\"") (name_unquoted name) refl in
+    let long : length (inner ++ byte "\"" ∷ []) ≡ length inner + 1 = pushed inner (byte "\"") in
     let test : nat_lt (length inner) (length inner + 1) ≡ true = lt-ltb _ _ (omega arith) in
     rw (to, long, test) refl
 
@@ -115,11 +116,11 @@ quoted_back (b ∷ name) some h = rw h refl
 quoted_is_name : (name : List ℕ) → (name ≡ [] → ⊥) → is_digits name ≡ false → IsName (quoted_text name) name
 quoted_is_name name some h =
     let inner : List ℕ = flat_map byte_text name in
-    let long : length (inner ++ 34 ∷ []) ≡ length inner + 1 = pushed inner 34 in
+    let long : length (inner ++ byte "\"" ∷ []) ≡ length inner + 1 = pushed inner (byte "\"") in
     record {
       whole = rw (string_len name) (omega arith);
       some = not_zero _;
-      back = rw (but_last inner 34, decoded_name name) (quoted_back name some h);
+      back = rw (but_last inner (byte "\""), decoded_name name) (quoted_back name some h);
     }
 
 name_is : (name : List ℕ) → (name ≡ [] → ⊥) → IsName (name_text name) name
@@ -133,41 +134,41 @@ name_is name some = by_test (is_plain name) refl
         plain (b ∷ bs) none e = plain_is_name b bs e
     by_test false h = quoted_is_name name some (not_digits name h)
 
-local_alone : (text name : List ℕ) → IsName text name → piece_of 37 text ≡ token TokenKind.Local (length text)
+local_alone : (text name : List ℕ) → IsName text name → piece_of (byte "%") text ≡ token TokenKind.Local (length text)
 unfolding piece_of is_blank after_sigil
 local_alone text name n = rw (n.whole, n.some) refl
 
-global_alone : (text name : List ℕ) → IsName text name → piece_of 64 text ≡ token TokenKind.Global (length text)
+global_alone : (text name : List ℕ) → IsName text name → piece_of (byte "@") text ≡ token TokenKind.Global (length text)
 unfolding piece_of is_blank after_sigil
 global_alone text name n = rw (n.whole, n.some) refl
 
 -- labels
 plain_label :
     (b : ℕ) (name : List ℕ) → list_all is_run_byte (b ∷ name) ≡ true →
-    piece_of b (name ++ 58 ∷ []) ≡ token TokenKind.Label (length (name ++ 58 ∷ []))
+    piece_of b (name ++ byte ":" ∷ []) ≡ token TokenKind.Label (length (name ++ byte ":" ∷ []))
 unfolding run_of or_label is_run_byte
 plain_label b name h =
     let parts : (is_run_byte b ≡ true) × (list_all is_run_byte name ≡ true) = and_parts _ _ h in
-    let to : run_len (name ++ 58 ∷ []) ≡ length name = prefix_to is_run_byte name 58 parts.1 refl in
-    let colon : has_colon (length name) (name ++ 58 ∷ []) ≡ true = colon_last name in
-    run_piece b (name ++ 58 ∷ []) parts.0 ∙ rw (to, colon, pushed name 58) refl
+    let to : run_len (name ++ byte ":" ∷ []) ≡ length name = prefix_to is_run_byte name (byte ":") parts.1 refl in
+    let colon : has_colon (length name) (name ++ byte ":" ∷ []) ≡ true = colon_last name in
+    run_piece b (name ++ byte ":" ∷ []) parts.0 ∙ rw (to, colon, pushed name (byte ":")) refl
 
 string_label :
     (more : List ℕ) → quoted_len more ≡ Some (length more) →
-    quoted (more ++ 58 ∷ []) ≡ token TokenKind.Label (length (more ++ 58 ∷ []))
+    quoted (more ++ byte ":" ∷ []) ≡ token TokenKind.Label (length (more ++ byte ":" ∷ []))
 unfolding quoted or_label
 string_label more h =
-    let colon : has_colon (length more) (more ++ 58 ∷ []) ≡ true = colon_last more in
-    rw (quoted_stops more (58 ∷ []) (length more) h, quoted) (rw (colon, pushed more 58) refl)
+    let colon : has_colon (length more) (more ++ byte ":" ∷ []) ≡ true = colon_last more in
+    rw (quoted_stops more (byte ":" ∷ []) (length more) h, quoted) (rw (colon, pushed more (byte ":")) refl)
 
 quoted_label :
     (name : List ℕ) →
-    (let more : List ℕ = flat_map byte_text name ++ 34 ∷ [] in
-    piece_of 34 (more ++ 58 ∷ []) ≡ token TokenKind.Label (length (more ++ 58 ∷ [])))
+    (let more : List ℕ = flat_map byte_text name ++ byte "\"" ∷ [] in
+    piece_of (byte "\"") (more ++ byte ":" ∷ []) ≡ token TokenKind.Label (length (more ++ byte ":" ∷ [])))
 unfolding piece_of is_blank
 quoted_label name =
     let inner : List ℕ = flat_map byte_text name in
-    string_label (inner ++ 34 ∷ []) (string_len name ∙ ap Some (sym (pushed inner 34)))
+    string_label (inner ++ byte "\"" ∷ []) (string_len name ∙ ap Some (sym (pushed inner (byte "\""))))
 
 -- numbers and words
 run_alone :
@@ -193,13 +194,13 @@ unfolding is_run_byte
 number_runs [] h = cc
 number_runs (b ∷ text) h = by_test (is_digits (b ∷ text)) refl
   where
-    signed : (b == 45) ≡ true → list_all is_run_byte text ≡ true → list_all is_run_byte (b ∷ text) ≡ true
-    signed e rest = let same : b ≡ 45 = eqb-true b 45 e in rw (same, rest) refl
+    signed : (b == byte "-") ≡ true → list_all is_run_byte text ≡ true → list_all is_run_byte (b ∷ text) ≡ true
+    signed e rest = let same : b ≡ byte "-" = eqb-true b (byte "-") e in rw (same, rest) refl
 
     by_test : (t : Bool) → is_digits (b ∷ text) ≡ t → list_all is_run_byte (b ∷ text) ≡ true
     by_test true e = digits_run (b ∷ text) e
     by_test false e =
-        let parts : ((b == 45) ≡ true) × (is_digits text ≡ true) = and_parts _ _ (either _ _ h e) in
+        let parts : ((b == byte "-") ≡ true) × (is_digits text ≡ true) = and_parts _ _ (either _ _ h e) in
         signed parts.0 (digits_run text parts.1)
 
 -- marks
@@ -255,33 +256,33 @@ word_gives text rest w ends =
     subst (λ t. Gives text rest (cond t (number text) (word text) ∷ [])) (not-true _ w.no_number)
     (run_gives text rest ends w.some w.runs)
 
-label_is : (text name : List ℕ) → IsName text name → lexeme_of TokenKind.Label (text ++ 58 ∷ []) ≡ label name
-label_is text name n = rw (but_last text 58, n.back) refl
+label_is : (text name : List ℕ) → IsName text name → lexeme_of TokenKind.Label (text ++ byte ":" ∷ []) ≡ label name
+label_is text name n = rw (but_last text (byte ":"), n.back) refl
 
 label_gives :
     (name rest : List ℕ) → IsTrue (ends_token rest) → (name ≡ [] → ⊥) →
-    Gives (name_text name ++ 58 ∷ []) rest (label name ∷ [])
+    Gives (name_text name ++ byte ":" ∷ []) rest (label name ∷ [])
 label_gives name rest ends some = by_test (is_plain name) refl
   where
-    plain : (bs : List ℕ) → (bs ≡ [] → ⊥) → list_all is_run_byte bs ≡ true → Gives (bs ++ 58 ∷ []) rest (label bs ∷ [])
+    plain : (bs : List ℕ) → (bs ≡ [] → ⊥) → list_all is_run_byte bs ≡ true → Gives (bs ++ byte ":" ∷ []) rest (label bs ∷ [])
     plain [] none e = absurd (none refl)
     plain (b ∷ bs) none e =
-        alone_gives b (bs ++ 58 ∷ []) rest TokenKind.Label (label (b ∷ bs)) ends refl (plain_label b bs e)
+        alone_gives b (bs ++ byte ":" ∷ []) rest TokenKind.Label (label (b ∷ bs)) ends refl (plain_label b bs e)
         (label_is (b ∷ bs) (b ∷ bs) (plain_is_name b bs e))
 
-    by_test : (t : Bool) → is_plain name ≡ t → Gives (cond t name (quoted_text name) ++ 58 ∷ []) rest (label name ∷ [])
+    by_test : (t : Bool) → is_plain name ≡ t → Gives (cond t name (quoted_text name) ++ byte ":" ∷ []) rest (label name ∷ [])
     by_test true h = plain name some (and_parts _ _ h).0
     by_test false h =
-        alone_gives 34 ((flat_map byte_text name ++ 34 ∷ []) ++ 58 ∷ []) rest TokenKind.Label (label name) ends refl
+        alone_gives (byte "\"") ((flat_map byte_text name ++ byte "\"" ∷ []) ++ byte ":" ∷ []) rest TokenKind.Label (label name) ends refl
         (quoted_label name) (label_is (quoted_text name) name (quoted_is_name name some (not_digits name h)))
 
 pub lexed_gives : (l : Lexeme) (rest : List ℕ) → IsLexed l → Follows l rest → Gives (lexeme_text l) rest (l ∷ [])
 lexed_gives (local name) rest lexed ends =
     let n : IsName (name_text name) name = name_is name lexed in
-    alone_gives 37 (name_text name) rest TokenKind.Local (local name) ends refl (local_alone _ name n) (rw n.back refl)
+    alone_gives (byte "%") (name_text name) rest TokenKind.Local (local name) ends refl (local_alone _ name n) (rw n.back refl)
 lexed_gives (global name) rest lexed ends =
     let n : IsName (name_text name) name = name_is name lexed in
-    alone_gives 64 (name_text name) rest TokenKind.Global (global name) ends refl (global_alone _ name n) (rw n.back refl)
+    alone_gives (byte "@") (name_text name) rest TokenKind.Global (global name) ends refl (global_alone _ name n) (rw n.back refl)
 lexed_gives (label name) rest lexed ends = label_gives name rest ends lexed
 lexed_gives (number text) rest lexed ends = number_gives text rest lexed ends
 lexed_gives (word text) rest lexed ends = word_gives text rest lexed ends

@@ -1,13 +1,14 @@
 -- A piece stays what it is where the text is cut off after it.
-use Rattle.std.proofs.Common.{◌≡◌, ◌∙◌, ℕ, zero, suc, ◌+◌, ◌<◌, ◌≤◌, ◌==◌, nat_lt, Bool, true, false, not, cond, List, [], ◌∷◌, ◌++◌, length, take, Option, Some, None, if◌then◌else◌, refl, sym, ap, arith, length-append, eqb-true}
-use Rattle.std.proofs.lemmas.Bool.Decides.{nat_tests}
+use Rattle.std.proofs.Common.{◌≡◌, ◌∙◌, ℕ, zero, suc, ◌+◌, ◌<◌, ◌≤◌, ◌==◌, nat_lt, Bool, true, false, cond, List, [], ◌∷◌, ◌++◌, length, take, Option, Some, None, if◌then◌else◌, refl, sym, ap, arith, length-append, eqb-true, lt-ltb, le-ltb, ltb-true, ltb-false}
 use Rattle.std.proofs.lemmas.List.{take-append-le}
 use Rattle.std.specs.Char.{is_ascii_digit}
 use Rattle.std.specs.List.{prefix_len}
+use Rattle.std.specs.Str.{byte}
 use Rattle.vfa_ir.proofs.Reading.{more_of}
 use Rattle.vfa_ir.specs.Tokens.{Piece, gap, token, piece_of, is_blank, is_run_byte, group, has_colon, meta, name_len, after_sigil, or_label, quoted, quoted_len, run_len, run_of}
 use Rattle.vfa_ir.specs.Words.{is_number}
 use Rattle.vfa_ir.specs.declared.tokens.TokenKind.{TokenKind}
+use Rattle.vfa_print.proofs.QuotedNames.{no_quote}
 
 -- Lengths
 
@@ -32,26 +33,11 @@ prefix_whole p (b ∷ prefix) back h = go (p b) h (prefix_whole p prefix back)
     go true k again = let e = again (omega arith) in omega arith
     go false k again = absurd (omega arith)
 
-lt_true : (a b : ℕ) → a < b → nat_lt a b ≡ true
-lt_true a b h = grind (arith, nat_tests)
-
-lt_false : (a b : ℕ) → b ≤ a → nat_lt a b ≡ false
-lt_false a b h = grind (arith, nat_tests)
-
-lt_is : (a b : ℕ) → nat_lt a b ≡ true → a < b
-lt_is a b h = grind (arith, nat_tests)
-
-lt_not : (a b : ℕ) → nat_lt a b ≡ false → b ≤ a
-lt_not a b h = grind (arith, nat_tests)
-
-abbrev no_quote : ℕ → Bool
-no_quote b = not (b == 34)
-
 quoted_is : (bs : List ℕ) (n : ℕ) → quoted_len bs ≡ Some n → (prefix_len no_quote bs < length bs) × (n ≡ prefix_len no_quote bs + 1)
 quoted_is bs n h = go (nat_lt (prefix_len no_quote bs) (length bs)) refl h
   where
     go : (t : Bool) → nat_lt (prefix_len no_quote bs) (length bs) ≡ t → (if t then Some (prefix_len no_quote bs + 1) else None) ≡ Some n → (prefix_len no_quote bs < length bs) × (n ≡ prefix_len no_quote bs + 1)
-    go true e k = (lt_is _ _ e, cc)
+    go true e k = (ltb-true _ _ e, cc)
     go false e k = absurd (cc)
 
 quoted_not : (bs : List ℕ) → quoted_len bs ≡ None → length bs ≤ prefix_len no_quote bs
@@ -59,13 +45,13 @@ quoted_not bs h = go (nat_lt (prefix_len no_quote bs) (length bs)) refl h
   where
     go : (t : Bool) → nat_lt (prefix_len no_quote bs) (length bs) ≡ t → (if t then Some (prefix_len no_quote bs + 1) else None) ≡ None → length bs ≤ prefix_len no_quote bs
     go true e k = absurd (cc)
-    go false e k = lt_not _ _ e
+    go false e k = ltb-false _ _ e
 
 quoted_some_cut : (prefix back : List ℕ) (n : ℕ) → quoted_len (prefix ++ back) ≡ Some n → n ≤ length prefix → quoted_len prefix ≡ Some n
 quoted_some_cut prefix back n h within =
     let q = quoted_is (prefix ++ back) n h in
     let e : prefix_len no_quote prefix ≡ prefix_len no_quote (prefix ++ back) = prefix_cut no_quote prefix back (omega arith) in
-    let t : nat_lt (prefix_len no_quote prefix) (length prefix) ≡ true = lt_true _ _ (omega arith) in
+    let t : nat_lt (prefix_len no_quote prefix) (length prefix) ≡ true = lt-ltb _ _ (omega arith) in
     ap (λ b. if b then Some (prefix_len no_quote prefix + 1) else None) t ∙ ap Some (ap (λ i. i + 1) e ∙ sym q.1)
 
 quoted_none_cut : (prefix back : List ℕ) → quoted_len (prefix ++ back) ≡ None → quoted_len prefix ≡ None
@@ -73,7 +59,7 @@ quoted_none_cut prefix back h =
     let q = quoted_not (prefix ++ back) h in
     let long = length-append prefix back in
     let e = prefix_whole no_quote prefix back (omega arith) in
-    let t : nat_lt (prefix_len no_quote prefix) (length prefix) ≡ false = lt_false _ _ (omega arith) in
+    let t : nat_lt (prefix_len no_quote prefix) (length prefix) ≡ false = le-ltb _ _ (omega arith) in
     ap (λ b. if b then Some (prefix_len no_quote prefix + 1) else None) t
 
 abbrev after_quote : Option ℕ → ℕ
@@ -88,7 +74,7 @@ in_quotes prefix back (Some n) e k = ap after_quote (quoted_some_cut prefix back
 
 name_cut : (prefix back : List ℕ) → name_len (prefix ++ back) ≤ length prefix → name_len prefix ≡ name_len (prefix ++ back)
 name_cut [] back h = omega arith
-name_cut (b ∷ prefix) back h = go (b == 34) h
+name_cut (b ∷ prefix) back h = go (b == byte "\"") h
   where
     go :
         (t : Bool) → cond t (after_quote (quoted_len (prefix ++ back))) (run_len (b ∷ (prefix ++ back))) ≤ suc (length prefix) →
@@ -131,8 +117,8 @@ unfolding or_label
 label_cut kind more prefix back h = ap (λ t. if t then token TokenKind.Label (more + 1) else token kind more) (go (has_colon more (prefix ++ back)) refl h)
   where
     past : (t : Bool) → nat_lt more (length prefix) ≡ t → has_colon more (prefix ++ back) ≡ false → has_colon more prefix ≡ false
-    past true e k = colon_cut prefix back more (lt_is _ _ e) ∙ k
-    past false e k = colon_past prefix more (lt_not _ _ e)
+    past true e k = colon_cut prefix back more (ltb-true _ _ e) ∙ k
+    past false e k = colon_past prefix more (ltb-false _ _ e)
 
     go : (t : Bool) → has_colon more (prefix ++ back) ≡ t → more_of (if t then token TokenKind.Label (more + 1) else token kind more) ≤ length prefix → has_colon more prefix ≡ has_colon more (prefix ++ back)
     go true e k = colon_cut prefix back more (omega arith)
@@ -177,11 +163,11 @@ unfolding piece_of after_sigil meta group
 piece_cut b prefix back within =
     let n : ℕ = length prefix in
     same_if (is_blank b) _ _ _ _ n within (λ h. refl)
-    (λ h. same_if (b == 59) _ _ _ _ n h (λ h. ap gap (prefix_cut _ prefix back h))
-    (λ h. same_if (b == 37) _ _ _ _ n h (λ h. long_cut TokenKind.Other TokenKind.Local _ _ n (name_cut prefix back) h)
-    (λ h. same_if (b == 64) _ _ _ _ n h (λ h. long_cut TokenKind.Other TokenKind.Global _ _ n (name_cut prefix back) h)
-    (λ h. same_if (b == 33) _ _ _ _ n h (λ h. long_cut TokenKind.Mark TokenKind.Meta _ _ n (prefix_cut is_run_byte prefix back) h)
-    (λ h. same_if (b == 35) _ _ _ _ n h (λ h. long_cut TokenKind.Other TokenKind.Group _ _ n (prefix_cut is_ascii_digit prefix back) h)
-    (λ h. same_if (b == 34) _ _ _ _ n h (quoted_cut prefix back)
+    (λ h. same_if (b == byte ";") _ _ _ _ n h (λ h. ap gap (prefix_cut _ prefix back h))
+    (λ h. same_if (b == byte "%") _ _ _ _ n h (λ h. long_cut TokenKind.Other TokenKind.Local _ _ n (name_cut prefix back) h)
+    (λ h. same_if (b == byte "@") _ _ _ _ n h (λ h. long_cut TokenKind.Other TokenKind.Global _ _ n (name_cut prefix back) h)
+    (λ h. same_if (b == byte "!") _ _ _ _ n h (λ h. long_cut TokenKind.Mark TokenKind.Meta _ _ n (prefix_cut is_run_byte prefix back) h)
+    (λ h. same_if (b == byte "#") _ _ _ _ n h (λ h. long_cut TokenKind.Other TokenKind.Group _ _ n (prefix_cut is_ascii_digit prefix back) h)
+    (λ h. same_if (b == byte "\"") _ _ _ _ n h (quoted_cut prefix back)
     (λ h. same_if (is_run_byte b) _ _ _ _ n h (run_cut b prefix back)
     (λ h. refl))))))))

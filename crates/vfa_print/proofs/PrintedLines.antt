@@ -3,6 +3,7 @@ use Rattle.std.proofs.Common.{◌≡◌, ℕ, ◌==◌, ◌||◌, Bool, true, fa
 use Rattle.std.proofs.lemmas.Bool.{and_parts}
 use Rattle.std.proofs.lemmas.List.{append-nil}
 use Rattle.std.specs.List.{AllByRecursion, list_all}
+use Rattle.std.specs.Str.{byte}
 use Rattle.vfa_ir.specs.Lexemes.{Lexeme, mark}
 use Rattle.vfa_ir.specs.Tokens.{gap, piece_of, is_blank, is_run_byte}
 use Rattle.vfa_print.proofs.Ending.{ends_token}
@@ -25,27 +26,27 @@ blanks_give (b ∷ bs) rest h =
 
 blank_gives : (after before : Bool) (rest : List ℕ) → Gives (blank_between after before) rest []
 unfolding is_blank
-blank_gives true true rest = blanks_give (32 ∷ []) rest refl
+blank_gives true true rest = blanks_give (byte " " ∷ []) rest refl
 blank_gives true false rest = gives_nothing rest
 blank_gives false before rest = gives_nothing rest
 
 -- what follows a lexeme that takes a blank ends it
-mark_ends : (c : ℕ) (rest : List ℕ) → (c == 40 || c == 41 || c == 44) ≡ true → IsTrue (ends_token (c ∷ rest))
+mark_ends : (c : ℕ) (rest : List ℕ) → (c == byte "(" || c == byte ")" || c == byte ",") ≡ true → IsTrue (ends_token (c ∷ rest))
 unfolding is_run_byte
 mark_ends c rest h =
     let P : ℕ → Type 0 = λ k. IsTrue (ends_token (k ∷ rest)) in
     let at : (k : ℕ) → P k → (c == k) ≡ true → P c = λ k p e. subst P (sym (eqb-true c k e)) p in
-    or_case (P c) (c == 40 || c == 41) (c == 44) h
-    (λ more. or_case (P c) (c == 40) (c == 41) more (at 40 refl) (at 41 refl)) (at 44 refl)
+    or_case (P c) (c == byte "(" || c == byte ")") (c == byte ",") h
+    (λ more. or_case (P c) (c == byte "(") (c == byte ")") more (at 40 refl) (at 41 refl)) (at 44 refl)
 
-blank_ends : (rest : List ℕ) → IsTrue (ends_token (32 ∷ rest))
+blank_ends : (rest : List ℕ) → IsTrue (ends_token (byte " " ∷ rest))
 unfolding is_run_byte
 blank_ends rest = refl
 
 begun : (l : Lexeme) (rest : List ℕ) → IsTrue (ends_token (blank_between true (takes_blank_before l) ++ (lexeme_text l ++ rest)))
-begun (mark c) rest = by_test (c == 40 || c == 41 || c == 44) refl
+begun (mark c) rest = by_test (c == byte "(" || c == byte ")" || c == byte ",") refl
   where
-    by_test : (t : Bool) → (c == 40 || c == 41 || c == 44) ≡ t → IsTrue (ends_token (blank_between true (not t) ++ (c ∷ rest)))
+    by_test : (t : Bool) → (c == byte "(" || c == byte ")" || c == byte ",") ≡ t → IsTrue (ends_token (blank_between true (not t) ++ (c ∷ rest)))
     by_test true h = mark_ends c rest h
     by_test false h = blank_ends (c ∷ rest)
 begun l rest = blank_ends (lexeme_text l ++ rest)
@@ -75,9 +76,9 @@ written_gives after (l ∷ ls) rest lexed ends =
 
 feed_gives : (rest : List ℕ) → Gives line_feed rest []
 unfolding is_blank
-feed_gives rest = blanks_give (10 ∷ []) rest refl
+feed_gives rest = blanks_give (byte "\n" ∷ []) rest refl
 
-feed_ends : (rest : List ℕ) → IsTrue (ends_token (10 ∷ rest))
+feed_ends : (rest : List ℕ) → IsTrue (ends_token (byte "\n" ∷ rest))
 unfolding is_run_byte
 feed_ends rest = refl
 

@@ -4,6 +4,7 @@ use Rattle.std.proofs.Math.Seq.{drop-append_seam}
 use Rattle.std.proofs.lemmas.List.{length-take, length-drop, take-append-le, drop-append-le}
 use Rattle.std.proofs.lemmas.List.Elements.{recursion_from_All}
 use Rattle.std.specs.List.{AllByRecursion}
+use Rattle.std.specs.Str.{byte}
 use Rattle.vfa_ir.proofs.Reading.{more_of, gap_inside, token_inside, tokens_placed}
 use Rattle.vfa_ir.specs.Grammar.{may_follow_parameters}
 use Rattle.vfa_ir.specs.Lexemes.{Lexeme}
@@ -111,7 +112,7 @@ token_firm :
     IsTrue (is_firm b bs (token kind more))
 token_firm b more bs Kind.Other may = cc
 token_firm b more bs Kind.Meta may = cc
-token_firm b more bs Kind.Mark may = not_first (b == 33) (b == 123) (b == 125) may
+token_firm b more bs Kind.Mark may = not_first (b == byte "!") (b == byte "{") (b == byte "}") may
 token_firm b more bs _ may = refl
 
 are_firm :

@@ -4,6 +4,7 @@ use Rattle.std.proofs.Math.Seq.{take-append_seam}
 use Rattle.std.proofs.lemmas.List.{append-nil, length-map}
 use Rattle.std.proofs.lemmas.List.Elements.{recursion_from_All}
 use Rattle.std.specs.List.{AllByRecursion}
+use Rattle.std.specs.Str.{byte}
 use Rattle.vfa_ir.specs.Lexemes.{Lexeme, mark}
 use Rattle.vfa_ir.specs.Printable.{IsTail}
 use Rattle.vfa_ir.specs.Reads.{tail_bytes}
@@ -32,11 +33,11 @@ unfolding is_blank is_bracket
 body_gives s lexed =
     let blocks : AllByRecursion IsLexedBlock s.blocks = recursion_from_All IsLexedBlock s.blocks lexed.blocks in
     let inner : List Lexeme = flat_map block s.blocks in
-    gives_more (32 ∷ []) _ [] [] (open_brace ∷ (inner ++ (close_brace ∷ []))) (blanks_give (32 ∷ []) _ refl)
-    (gives_more (123 ∷ []) _ [] (open_brace ∷ []) (inner ++ (close_brace ∷ [])) (brace_gives 123 _ refl)
+    gives_more (byte " " ∷ []) _ [] [] (open_brace ∷ (inner ++ (close_brace ∷ []))) (blanks_give (byte " " ∷ []) _ refl)
+    (gives_more (byte "{" ∷ []) _ [] (open_brace ∷ []) (inner ++ (close_brace ∷ [])) (brace_gives (byte "{") _ refl)
     (gives_more line_feed _ [] [] (inner ++ (close_brace ∷ [])) (blanks_give line_feed _ refl)
     (gives_more (blocks_text s.blocks) (codes "}") [] inner (close_brace ∷ []) (blocks_give s.blocks _ blocks)
-    (brace_gives 125 [] refl))))
+    (brace_gives (byte "}") [] refl))))
 
 body_ends : (s : Sentence) (rest : List ℕ) → IsTrue (ends_token (body_text s ++ rest))
 unfolding is_run_byte
@@ -52,7 +53,7 @@ tail_text_gives :
 unfolding is_blank
 tail_text_gives [] rest is ends = gives_nothing rest
 tail_text_gives (b ∷ tail) rest is ends =
-    gives_more (32 ∷ []) (b ∷ tail) rest [] _ (blanks_give (32 ∷ []) _ refl) (tail_gives (b ∷ tail) rest is ends)
+    gives_more (byte " " ∷ []) (b ∷ tail) rest [] _ (blanks_give (byte " " ∷ []) _ refl) (tail_gives (b ∷ tail) rest is ends)
 
 sentence_gives :
     (s : Sentence) (tail : List ℕ) → IsLexedTree s → IsTail tail →
@@ -102,19 +103,19 @@ tail_between before tail rest ls g is ends =
 
 some_tail :
     (s : Sentence) (tail : List ℕ) → IsLexedTree s → IsTail tail → s.tail ≡ lexemes tail (tokens_of tail) →
-    (let text : List ℕ = written false (header s) ++ (32 ∷ (tail ++ body_text s)) in
+    (let text : List ℕ = written false (header s) ++ (byte " " ∷ (tail ++ body_text s)) in
     tail_bytes text (tokens_of text) s ≡ tail)
 unfolding is_blank is_run_byte
 some_tail s tail lexed is same =
     let prefix : AllByRecursion IsLexed (header s) = recursion_from_All IsLexed (header s) lexed.header in
-    let before : List ℕ = written false (header s) ++ (32 ∷ []) in
+    let before : List ℕ = written false (header s) ++ (byte " " ∷ []) in
     let rest : List ℕ = tail ++ body_text s in
     let g : Gives before rest (header s) =
     subst (λ ls. Gives before rest ls) (append-nil (header s))
-    (gives_more (written false (header s)) (32 ∷ []) rest (header s) []
-    (written_gives false (header s) (32 ∷ rest) prefix refl) (blanks_give (32 ∷ []) rest refl)) in
+    (gives_more (written false (header s)) (byte " " ∷ []) rest (header s) []
+    (written_gives false (header s) (byte " " ∷ rest) prefix refl) (blanks_give (byte " " ∷ []) rest refl)) in
     let many : length s.tail ≡ length (tokens_of tail) = ap length same ∙ length-map (tokens_of tail) _ in
-    subst (λ text. tail_bytes text (tokens_of text) s ≡ tail) (append_assoc (written false (header s)) (32 ∷ []) rest)
+    subst (λ text. tail_bytes text (tokens_of text) s ≡ tail) (append_assoc (written false (header s)) (byte " " ∷ []) rest)
     (rw many (tail_between before tail (body_text s) (header s) g is refl))
 
 pub printed_tail :

@@ -5,7 +5,7 @@ ghost use Rattle.vfa_ir.specs.Lexemes.{local as local_lexeme, global as global_l
 ghost use Rattle.vfa_ir.specs.Spelling.{type as type_lexeme};
 ghost use Rattle.vfa_ir.specs.Words.{callee as callee_name};
 ghost use Rattle.vfa_print.specs.Trees.{signed_text};
-ghost use Rattle.vfa_print.specs.Layout.{blank_between, text_line};
+ghost use Rattle.vfa_print.specs.Layout.{blank_between, line_feed, text_line};
 ghost use Rattle.vfa_print.specs.Writing.{Draft, with_token, with_tokens, with_bytes};
 
 use crate::names::push_name;
@@ -54,6 +54,13 @@ impl Writer {
     {
         self.blank_due = false;
         self.text.extend_from_slice(bytes)
+    }
+
+    /// The end of a line.
+    pub fn line_feed(&mut self) -> Result<(), AllocError>
+        ensures { IfOk result (λ _. self.new ≡ with_bytes self.old line_feed) }
+    {
+        self.bytes(b"\n")
     }
 
     /// The blank before a token that takes one, if one is due.
