@@ -35,7 +35,7 @@ pair_exact = fits_exact (made attachment_of (after (one metadata_kind) (λ _. on
 
 pub attachment_exact : Exact attachment spell.attachment FitsAttachment anything
 unfolding attachment
-attachment_exact = skip_exact (the_mark (byte ",")) (mark (byte ",")) metadata_pair (λ a. metadata a.kind ∷ metadata a.node ∷ []) FitsAttachment anything (mark_exact 44) pair_exact
+attachment_exact = skip_exact (the_mark (byte ",")) (mark (byte ",")) metadata_pair (λ a. metadata a.kind ∷ metadata a.node ∷ []) FitsAttachment anything (mark_exact (byte ",")) pair_exact
 
 attachment_begins : (s : Unit {0}) (a : Attachment) → FitsAttachment a → Begins (is_mark (byte ",")) (spell.attachment a)
 attachment_begins s a f = record { head = mark (byte ","); more = metadata a.kind ∷ metadata a.node ∷ []; is = refl; passes = refl }

@@ -87,7 +87,7 @@ defined_exact : (phis : Bool) → Exact (defined_line phis) items.line (Made def
 unfolding defined_line
 defined_exact phis = made_exact defined_of (after (one local_name) (λ r. skip (the_mark (byte "=")) (defined_rest phis r))) (λ p. local p.0 ∷ mark (byte "=") ∷ after_equals p.1) (DefinedFits phis) (λ p. line_follow p.1) items.line line_follow
     (after_exact (one local_name) (λ r. skip (the_mark (byte "=")) (defined_rest phis r)) (λ r. local r ∷ []) (λ _. Unit {0}) anything (λ _ l. mark (byte "=") ∷ after_equals l) (λ r l. RestFits phis r l) (λ _ l. line_follow l)
-    local_exact (λ r _. skip_exact (the_mark (byte "=")) (mark (byte "=")) (defined_rest phis r) after_equals (RestFits phis r) line_follow (mark_exact 61) (defined_rest_exact phis r))
+    local_exact (λ r _. skip_exact (the_mark (byte "=")) (mark (byte "=")) (defined_rest phis r) after_equals (RestFits phis r) line_follow (mark_exact (byte "=")) (defined_rest_exact phis r))
     (λ a b rest f g m. refl))
     (λ p f. rest_spelled phis p.0 p.1 f.1) (λ p f. refl)
 

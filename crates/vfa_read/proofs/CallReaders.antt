@@ -67,16 +67,16 @@ group_shorter ts rest x e = shorter is_group (λ _. one group_digits) same_state
 
 pub arguments_exact : (w : ℕ) → IsWidth w → Exact (arguments w) (λ p. mark (byte "(") ∷ ((spell.typed w p.0 ++ (mark (byte ",") ∷ spell.typed w p.1)) ++ (mark (byte ")") ∷ []))) (FitsTwo w) anything
 arguments_exact w h = skip_exact (the_mark (byte "(")) (mark (byte "(")) (skip (the_type w) (ended (typed_operands w) (the_mark (byte ")"))))
-    (λ p. (spell.typed w p.0 ++ (mark (byte ",") ∷ spell.typed w p.1)) ++ (mark (byte ")") ∷ [])) (FitsTwo w) anything (mark_exact 40)
+    (λ p. (spell.typed w p.0 ++ (mark (byte ",") ∷ spell.typed w p.1)) ++ (mark (byte ")") ∷ [])) (FitsTwo w) anything (mark_exact (byte "("))
     (skip_exact (the_type w) (spell.type w) (ended (typed_operands w) (the_mark (byte ")")))
     (λ p. (spell.value p.0 ++ (mark (byte ",") ∷ spell.typed w p.1)) ++ (mark (byte ")") ∷ [])) (FitsTwo w) anything (the_type_exact w h)
     (ended_exact (typed_operands w) (the_mark (byte ")")) (mark (byte ")")) (λ p. spell.value p.0 ++ (mark (byte ",") ∷ spell.typed w p.1)) (FitsTwo w) anything
-    (typed_operands_exact w h) (mark_exact 41) (λ x f. refl)))
+    (typed_operands_exact w h) (mark_exact (byte ")")) (λ x f. refl)))
 
 strict_some : Exact (made Some (skip (the_mark (byte ",")) (skip (the_type 1) (one (literal_of 1))))) spell.strict_argument (Made Some (FitsLiteral 1)) anything
 strict_some = made_exact Some (skip (the_mark (byte ",")) (skip (the_type 1) (one (literal_of 1)))) (λ l. mark (byte ",") ∷ spell.type 1 ∷ spell.literal l) (FitsLiteral 1) anything
     spell.strict_argument anything
-    (skip_exact (the_mark (byte ",")) (mark (byte ",")) (skip (the_type 1) (one (literal_of 1))) (λ l. spell.type 1 ∷ spell.literal l) (FitsLiteral 1) anything (mark_exact 44)
+    (skip_exact (the_mark (byte ",")) (mark (byte ",")) (skip (the_type 1) (one (literal_of 1))) (λ l. spell.type 1 ∷ spell.literal l) (FitsLiteral 1) anything (mark_exact (byte ","))
     (skip_exact (the_type 1) (spell.type 1) (one (literal_of 1)) spell.literal (FitsLiteral 1) anything (the_type_exact 1 one_wide) (literal_exact 1 one_wide)))
     (λ l f. refl) (λ l f. refl)
 
@@ -107,13 +107,13 @@ IntrinsicArgument w fun p = FitsValue w p.0 × FitsStrict fun p.1
 
 pub argument_exact : (w : ℕ) (fun : Fun1) → IsWidth w → Exact (argument w fun) (λ p. mark (byte "(") ∷ ((spell.typed w p.0 ++ spell.strict_argument p.1) ++ (mark (byte ")") ∷ []))) (IntrinsicArgument w fun) anything
 argument_exact w fun h = skip_exact (the_mark (byte "(")) (mark (byte "(")) (skip (the_type w) (ended (after (one (value_of w)) (λ _. strict_argument fun)) (the_mark (byte ")"))))
-    (λ p. (spell.typed w p.0 ++ spell.strict_argument p.1) ++ (mark (byte ")") ∷ [])) (IntrinsicArgument w fun) anything (mark_exact 40)
+    (λ p. (spell.typed w p.0 ++ spell.strict_argument p.1) ++ (mark (byte ")") ∷ [])) (IntrinsicArgument w fun) anything (mark_exact (byte "("))
     (skip_exact (the_type w) (spell.type w) (ended (after (one (value_of w)) (λ _. strict_argument fun)) (the_mark (byte ")")))
     (λ p. (spell.value p.0 ++ spell.strict_argument p.1) ++ (mark (byte ")") ∷ [])) (IntrinsicArgument w fun) anything (the_type_exact w h)
     (ended_exact (after (one (value_of w)) (λ _. strict_argument fun)) (the_mark (byte ")")) (mark (byte ")")) (λ p. spell.value p.0 ++ spell.strict_argument p.1) (IntrinsicArgument w fun) anything
     (after_exact (one (value_of w)) (λ _. strict_argument fun) spell.value (FitsValue w) anything (λ _ s. spell.strict_argument s) (λ _ s. FitsStrict fun s) (λ _ s. anything s)
     (value_exact w h) (λ _ _. strict_exact fun) (λ a b rest f g m. may_anything a (spell.strict_argument b ++ rest)))
-    (mark_exact 41) (λ x f. refl)))
+    (mark_exact (byte ")")) (λ x f. refl)))
 
 -- a call from its arguments on, and from the type of its result on
 
@@ -311,10 +311,10 @@ arguments_joined = join_by spell.argument (mark (byte ",") ∷ [])
 
 call_arguments_exact : Exact call_arguments (λ xs. mark (byte "(") ∷ (arguments_joined xs ++ (mark (byte ")") ∷ []))) (All FitsArgument) anything
 unfolding call_arguments
-call_arguments_exact = skip_exact (the_mark (byte "(")) (mark (byte "(")) (ended (comma_list is_any_word call_argument) (the_mark (byte ")"))) (λ xs. arguments_joined xs ++ (mark (byte ")") ∷ [])) (All FitsArgument) anything (mark_exact 40)
+call_arguments_exact = skip_exact (the_mark (byte "(")) (mark (byte "(")) (ended (comma_list is_any_word call_argument) (the_mark (byte ")"))) (λ xs. arguments_joined xs ++ (mark (byte ")") ∷ [])) (All FitsArgument) anything (mark_exact (byte "("))
     (ended_exact (comma_list is_any_word call_argument) (the_mark (byte ")")) (mark (byte ")")) arguments_joined (All FitsArgument)
     (commas_follow call_argument spell.argument FitsArgument anything call_argument_exact argument_marks is_any_word argument_begins)
-    (comma_list_exact call_argument spell.argument FitsArgument anything call_argument_exact argument_marks is_any_word argument_begins) (mark_exact 41)
+    (comma_list_exact call_argument spell.argument FitsArgument anything call_argument_exact argument_marks is_any_word argument_begins) (mark_exact (byte ")"))
     (λ xs f. commas_close call_argument spell.argument FitsArgument anything call_argument_exact argument_marks is_any_word argument_begins 41 refl refl xs))
 
 -- a call from its arguments on, and from its words on
@@ -477,9 +477,9 @@ abbrev assumed_spelling : Written → List Lexeme
 assumed_spelling c = mark (byte "(") ∷ (spell.typed 1 c ++ (mark (byte ")") ∷ []))
 
 assumed_exact : Exact assumed assumed_spelling (FitsValue 1) anything
-assumed_exact = skip_exact (the_mark (byte "(")) (mark (byte "(")) (skip (the_type 1) (ended (one (value_of 1)) (the_mark (byte ")")))) (λ c. spell.typed 1 c ++ (mark (byte ")") ∷ [])) (FitsValue 1) anything (mark_exact 40)
+assumed_exact = skip_exact (the_mark (byte "(")) (mark (byte "(")) (skip (the_type 1) (ended (one (value_of 1)) (the_mark (byte ")")))) (λ c. spell.typed 1 c ++ (mark (byte ")") ∷ [])) (FitsValue 1) anything (mark_exact (byte "("))
     (skip_exact (the_type 1) (spell.type 1) (ended (one (value_of 1)) (the_mark (byte ")"))) (λ c. spell.value c ++ (mark (byte ")") ∷ [])) (FitsValue 1) anything (the_type_exact 1 one_wide)
-    (ended_exact (one (value_of 1)) (the_mark (byte ")")) (mark (byte ")")) spell.value (FitsValue 1) anything (value_exact 1 one_wide) (mark_exact 41) (λ x f. refl)))
+    (ended_exact (one (value_of 1)) (the_mark (byte ")")) (mark (byte ")")) spell.value (FitsValue 1) anything (value_exact 1 one_wide) (mark_exact (byte ")")) (λ x f. refl)))
 
 abbrev void_arguments : Operation → List Lexeme
 void_arguments (Operation.Assume words c) = mark (byte "(") ∷ (spell.typed 1 c ++ (mark (byte ")") ∷ map group words.groups))

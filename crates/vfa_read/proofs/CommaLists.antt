@@ -28,7 +28,7 @@ module _ {A : Type 0} (item : Reader A) (spell : A → List Lexeme) (Fits : A �
   further_follow = follow_many (is_mark (byte ",")) follow
 
   further_item_exact : (s : Unit {0}) → Exact (skip (the_mark (byte ",")) item) (λ x. mark (byte ",") ∷ spell x) Fits follow
-  further_item_exact s = skip_exact (the_mark (byte ",")) (mark (byte ",")) item spell Fits follow (mark_exact 44) ei
+  further_item_exact s = skip_exact (the_mark (byte ",")) (mark (byte ",")) item spell Fits follow (mark_exact (byte ",")) ei
 
   further_exact : Exact (after_commas item) (flat_map (λ x. mark (byte ",") ∷ spell x)) FurtherFit further_follow
   further_exact = many_exact (is_mark (byte ",")) (λ _. skip (the_mark (byte ",")) item) same_state (λ x. mark (byte ",") ∷ spell x) (λ _. Fits) follow further_item_exact further_begins comma_joins tt

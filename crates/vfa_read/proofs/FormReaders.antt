@@ -1,6 +1,5 @@
 -- Reading an operation or a terminator, after its word, is exact.
 use Rattle.std.proofs.Common.{◌≡◌, ℕ, zero, suc, ◌≤◌, Bool, true, false, not, ◌==◌, cond, List, [], ◌∷◌, ◌++◌, drop, Option, Some, None, ◌⊎◌, inl, inr, ⊎_elim, decimal, bytes_eq, codes, refl, sym, ap, ◌∙◌, subst, arith, eqb-true}
-use Rattle.std.proofs.lemmas.Bool.Decides.{nat_tests}
 use Rattle.std.proofs.lemmas.Fmt.{decimal_digit}
 use Rattle.std.specs.Str.{byte}
 use Rattle.vfa_ir.specs.declared.operations.Pred.{Pred}
@@ -15,7 +14,7 @@ use Rattle.vfa_read.specs.Productions.{target, operands, typed_operands, same_si
 use Rattle.vfa_read.specs.Readers.{Reader, one, after, made, skip, ended, next_passes}
 use Rattle.vfa_read.specs.Tables.{the_mark, the_word, the_type, local_name, type_of, value_of, keyword_in, part_index}
 use Rattle.vfa_read.proofs.Exact.{Exact, Made, anything, may_anything, one_exact, after_exact, made_exact, choose_exact, optional_exact, skip_exact, ended_exact}
-use Rattle.vfa_read.proofs.LeafReaders.{some_is, first_or, mark_exact, word_exact, local_exact, type_exact, type_is, value_exact, pred_exact}
+use Rattle.vfa_read.proofs.LeafReaders.{some_is, first_or, mark_exact, word_exact, local_exact, type_exact, type_is, value_exact, pred_exact, same_number}
 use Rattle.vfa_read.proofs.Many.{follow_many}
 use Rattle.vfa_read.proofs.Words.{tested, is_width, same_text}
 
@@ -30,9 +29,6 @@ the_type_is w l x e = go (type_of l) refl e
     go : (o : Option ℕ) → type_of l ≡ o → elim o [ None ↦ None | Some v ↦ cond (v == w) (Some tt) None ] ≡ Some x → l ≡ spell.type w
     go None t e = cc
     go (Some v) t e = type_is l v t ∙ ap spell.type (eqb-true v w (tested (v == w) tt x e).0)
-
-same_number : (n : ℕ) → (n == n) ≡ true
-same_number n = grind (arith, nat_tests)
 
 tested_type : (w : ℕ) (o : Option ℕ) → o ≡ Some w → elim o [ None ↦ None | Some v ↦ cond (v == w) (Some (tt {0})) None ] ≡ Some (tt {0})
 tested_type w None e = cc
@@ -90,13 +86,13 @@ FitsTwo w p = FitsValue w p.0 × FitsValue w p.1
 pub operands_exact : (w : ℕ) → IsWidth w → Exact (operands w) (λ p. spell.value p.0 ++ (mark (byte ",") ∷ spell.value p.1)) (FitsTwo w) anything
 operands_exact w h = after_exact (one (value_of w)) (λ _. skip (the_mark (byte ",")) (one (value_of w))) spell.value (FitsValue w) anything
     (λ _ b. mark (byte ",") ∷ spell.value b) (λ _ b. FitsValue w b) (λ _ b. anything b) (value_exact w h)
-    (λ _ _. skip_exact (the_mark (byte ",")) (mark (byte ",")) (one (value_of w)) spell.value (FitsValue w) anything (mark_exact 44) (value_exact w h))
+    (λ _ _. skip_exact (the_mark (byte ",")) (mark (byte ",")) (one (value_of w)) spell.value (FitsValue w) anything (mark_exact (byte ",")) (value_exact w h))
     (λ a b rest f g m. may_anything a ((mark (byte ",") ∷ spell.value b) ++ rest))
 
 pub typed_operands_exact : (w : ℕ) → IsWidth w → Exact (typed_operands w) (λ p. spell.value p.0 ++ (mark (byte ",") ∷ spell.typed w p.1)) (FitsTwo w) anything
 typed_operands_exact w h = after_exact (one (value_of w)) (λ _. skip (the_mark (byte ",")) (skip (the_type w) (one (value_of w)))) spell.value (FitsValue w) anything
     (λ _ b. mark (byte ",") ∷ spell.typed w b) (λ _ b. FitsValue w b) (λ _ b. anything b) (value_exact w h)
-    (λ _ _. skip_exact (the_mark (byte ",")) (mark (byte ",")) (skip (the_type w) (one (value_of w))) (spell.typed w) (FitsValue w) anything (mark_exact 44)
+    (λ _ _. skip_exact (the_mark (byte ",")) (mark (byte ",")) (skip (the_type w) (one (value_of w))) (spell.typed w) (FitsValue w) anything (mark_exact (byte ","))
     (skip_exact (the_type w) (spell.type w) (one (value_of w)) spell.value (FitsValue w) anything (the_type_exact w h) (value_exact w h)))
     (λ a b rest f g m. may_anything a ((mark (byte ",") ∷ spell.typed w b) ++ rest))
 
@@ -198,7 +194,7 @@ selected_exact = after_exact (one (value_of 1)) (λ _. skip (the_mark (byte ",")
     (λ _ q. mark (byte ",") ∷ spell.type q.0 ∷ (spell.value q.1.0 ++ (mark (byte ",") ∷ spell.typed q.0 q.1.1))) (λ _ q. IsWidth q.0 × FitsTwo q.0 q.1) (λ _ q. anything q)
     (value_exact 1 one_wide)
     (λ _ _. skip_exact (the_mark (byte ",")) (mark (byte ",")) (after (one type_of) typed_operands) (λ q. spell.type q.0 ∷ (spell.value q.1.0 ++ (mark (byte ",") ∷ spell.typed q.0 q.1.1))) (λ q. IsWidth q.0 × FitsTwo q.0 q.1) anything
-    (mark_exact 44) (typed_exact typed_operands (λ w p. spell.value p.0 ++ (mark (byte ",") ∷ spell.typed w p.1)) FitsTwo typed_operands_exact))
+    (mark_exact (byte ",")) (typed_exact typed_operands (λ w p. spell.value p.0 ++ (mark (byte ",") ∷ spell.typed w p.1)) FitsTwo typed_operands_exact))
     (λ a b rest f g m. may_anything a ((mark (byte ",") ∷ spell.type b.0 ∷ (spell.value b.1.0 ++ (mark (byte ",") ∷ spell.typed b.0 b.1.1))) ++ rest))
 
 pub select_exact : Exact select after_word (Made select_of SelectedFits) op_follow
@@ -218,12 +214,12 @@ freeze_exact = made_exact freeze_of (after (one type_of) (λ width. one (value_o
 pub pair_type_exact : Exact pair_type spell.pair_type IsWidth anything
 unfolding pair_type
 pair_type_exact = skip_exact (the_mark (byte "{")) (mark (byte "{")) (ended (ended (ended (one type_of) (the_mark (byte ","))) (the_type 1)) (the_mark (byte "}")))
-    (λ w. spell.type w ∷ mark (byte ",") ∷ spell.type 1 ∷ mark (byte "}") ∷ []) IsWidth anything (mark_exact 123)
+    (λ w. spell.type w ∷ mark (byte ",") ∷ spell.type 1 ∷ mark (byte "}") ∷ []) IsWidth anything (mark_exact (byte "{"))
     (ended_exact (ended (ended (one type_of) (the_mark (byte ","))) (the_type 1)) (the_mark (byte "}")) (mark (byte "}")) (λ w. spell.type w ∷ mark (byte ",") ∷ spell.type 1 ∷ []) IsWidth anything
     (ended_exact (ended (one type_of) (the_mark (byte ","))) (the_type 1) (spell.type 1) (λ w. spell.type w ∷ mark (byte ",") ∷ []) IsWidth anything
-    (ended_exact (one type_of) (the_mark (byte ",")) (mark (byte ",")) (λ w. spell.type w ∷ []) IsWidth anything type_exact (mark_exact 44) (λ x f. refl))
+    (ended_exact (one type_of) (the_mark (byte ",")) (mark (byte ",")) (λ w. spell.type w ∷ []) IsWidth anything type_exact (mark_exact (byte ",")) (λ x f. refl))
     (the_type_exact 1 one_wide) (λ x f. refl))
-    (mark_exact 125) (λ x f. refl))
+    (mark_exact (byte "}")) (λ x f. refl))
 
 abbrev pub ExtractedFits : ℕ × (List ℕ × ℕ) → Type 0
 ExtractedFits (width, (_, index)) = IsWidth width × (Unit {0} × (index ≤ 1))
@@ -236,7 +232,7 @@ extract_exact = made_exact extract_of (after pair_type (λ _. after (one local_n
     (λ _ q. local q.0 ∷ mark (byte ",") ∷ number (decimal q.1) ∷ []) (λ _ q. Unit {0} × (q.1 ≤ 1)) (λ _ q. anything q) pair_type_exact
     (λ _ _. after_exact (one local_name) (λ _. skip (the_mark (byte ",")) (one part_index)) (λ x. local x ∷ []) (λ _. Unit {0}) anything
     (λ _ i. mark (byte ",") ∷ number (decimal i) ∷ []) (λ _ i. i ≤ 1) (λ _ i. anything i) local_exact
-    (λ _ _. skip_exact (the_mark (byte ",")) (mark (byte ",")) (one part_index) (λ i. number (decimal i) ∷ []) (λ i. i ≤ 1) anything (mark_exact 44) part_exact)
+    (λ _ _. skip_exact (the_mark (byte ",")) (mark (byte ",")) (one part_index) (λ i. number (decimal i) ∷ []) (λ i. i ≤ 1) anything (mark_exact (byte ",")) part_exact)
     (λ a b rest f g m. refl))
     (λ a b rest f g m. refl))
     (λ p f. refl) (λ p f. refl)
@@ -263,9 +259,9 @@ conditional_spelling p = spell.value p.0 ++ (mark (byte ",") ∷ (spell.target p
 conditional_exact : Exact conditional conditional_spelling ConditionFits anything
 conditional_exact = after_exact (one (value_of 1)) (λ _. skip (the_mark (byte ",")) (after target (λ _. skip (the_mark (byte ",")) target))) spell.value (FitsValue 1) anything
     (λ _ q. mark (byte ",") ∷ (spell.target q.0 ++ (mark (byte ",") ∷ spell.target q.1))) (λ _ _. Unit {0} × Unit {0}) (λ _ q. anything q) (value_exact 1 one_wide)
-    (λ _ _. skip_exact (the_mark (byte ",")) (mark (byte ",")) (after target (λ _. skip (the_mark (byte ",")) target)) (λ q. spell.target q.0 ++ (mark (byte ",") ∷ spell.target q.1)) (λ _. Unit {0} × Unit {0}) anything (mark_exact 44)
+    (λ _ _. skip_exact (the_mark (byte ",")) (mark (byte ",")) (after target (λ _. skip (the_mark (byte ",")) target)) (λ q. spell.target q.0 ++ (mark (byte ",") ∷ spell.target q.1)) (λ _. Unit {0} × Unit {0}) anything (mark_exact (byte ","))
     (after_exact target (λ _. skip (the_mark (byte ",")) target) spell.target (λ _. Unit {0}) anything (λ _ x. mark (byte ",") ∷ spell.target x) (λ _ _. Unit {0}) (λ _ x. anything x) target_exact
-    (λ _ _. skip_exact (the_mark (byte ",")) (mark (byte ",")) target spell.target (λ _. Unit {0}) anything (mark_exact 44) target_exact)
+    (λ _ _. skip_exact (the_mark (byte ",")) (mark (byte ",")) target spell.target (λ _. Unit {0}) anything (mark_exact (byte ",")) target_exact)
     (λ a b rest f g m. refl)))
     (λ a b rest f g m. may_anything a ((mark (byte ",") ∷ (spell.target b.0 ++ (mark (byte ",") ∷ spell.target b.1))) ++ rest))
 

@@ -157,8 +157,8 @@ abbrev closed : Reader (List Parameter)
 closed = skip (the_mark (byte "(")) (ended parameters (the_mark (byte ")")))
 
 closed_exact : Exact closed (λ ps. mark (byte "(") ∷ (joined ps ++ (mark (byte ")") ∷ []))) (All FitsParameter) anything
-closed_exact = skip_exact (the_mark (byte "(")) (mark (byte "(")) (ended parameters (the_mark (byte ")"))) (λ ps. joined ps ++ (mark (byte ")") ∷ [])) (All FitsParameter) anything (mark_exact 40)
-    (ended_exact parameters (the_mark (byte ")")) (mark (byte ")")) joined (All FitsParameter) parameters_follow parameters_exact (mark_exact 41) (λ ps f. closes_parameters ps))
+closed_exact = skip_exact (the_mark (byte "(")) (mark (byte "(")) (ended parameters (the_mark (byte ")"))) (λ ps. joined ps ++ (mark (byte ")") ∷ [])) (All FitsParameter) anything (mark_exact (byte "("))
+    (ended_exact parameters (the_mark (byte ")")) (mark (byte ")")) joined (All FitsParameter) parameters_follow parameters_exact (mark_exact (byte ")")) (λ ps f. closes_parameters ps))
 
 abbrev Named : Type 0
 Named = ℕ × (List ℕ × List Parameter)

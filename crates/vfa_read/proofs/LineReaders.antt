@@ -38,7 +38,7 @@ operand_pair w = after (one (value_of w)) (λ _. skip (the_mark (byte ",")) (one
 
 operand_pair_exact : (w : ℕ) → IsWidth w → Exact (operand_pair w) (λ p. spell.value p.0 ++ (mark (byte ",") ∷ local p.1 ∷ [])) (PairFits w) anything
 operand_pair_exact w h = after_exact (one (value_of w)) (λ _. skip (the_mark (byte ",")) (one local_name)) spell.value (FitsValue w) anything (λ _ x. mark (byte ",") ∷ local x ∷ []) (λ _ _. Unit {0}) (λ _ x. anything x)
-    (value_exact w h) (λ _ _. skip_exact (the_mark (byte ",")) (mark (byte ",")) (one local_name) (λ x. local x ∷ []) (λ _. Unit {0}) anything (mark_exact 44) local_exact)
+    (value_exact w h) (λ _ _. skip_exact (the_mark (byte ",")) (mark (byte ",")) (one local_name) (λ x. local x ∷ []) (λ _. Unit {0}) anything (mark_exact (byte ",")) local_exact)
     (λ a b rest f g m. may_anything a ((mark (byte ",") ∷ local b ∷ []) ++ rest))
 
 abbrev IncomingFits : ℕ → Incoming → Type 0
@@ -50,8 +50,8 @@ incoming_exact w h =
     let read = skip (the_mark (byte "[")) (ended (operand_pair w) (the_mark (byte "]"))) in
     fits_exact (made incoming_of read) spell.incoming (Made incoming_of (PairFits w)) (IncomingFits w) anything
     (made_exact incoming_of read (λ p. mark (byte "[") ∷ ((spell.value p.0 ++ (mark (byte ",") ∷ local p.1 ∷ [])) ++ (mark (byte "]") ∷ []))) (PairFits w) anything spell.incoming anything
-    (skip_exact (the_mark (byte "[")) (mark (byte "[")) (ended (operand_pair w) (the_mark (byte "]"))) (λ p. (spell.value p.0 ++ (mark (byte ",") ∷ local p.1 ∷ [])) ++ (mark (byte "]") ∷ [])) (PairFits w) anything (mark_exact 91)
-    (ended_exact (operand_pair w) (the_mark (byte "]")) (mark (byte "]")) (λ p. spell.value p.0 ++ (mark (byte ",") ∷ local p.1 ∷ [])) (PairFits w) anything (operand_pair_exact w h) (mark_exact 93) (λ x f. refl)))
+    (skip_exact (the_mark (byte "[")) (mark (byte "[")) (ended (operand_pair w) (the_mark (byte "]"))) (λ p. (spell.value p.0 ++ (mark (byte ",") ∷ local p.1 ∷ [])) ++ (mark (byte "]") ∷ [])) (PairFits w) anything (mark_exact (byte "["))
+    (ended_exact (operand_pair w) (the_mark (byte "]")) (mark (byte "]")) (λ p. spell.value p.0 ++ (mark (byte ",") ∷ local p.1 ∷ [])) (PairFits w) anything (operand_pair_exact w h) (mark_exact (byte "]")) (λ x f. refl)))
     (λ p f. ap (λ z. mark (byte "[") ∷ z) (sym (append_assoc (spell.value p.0) (mark (byte ",") ∷ local p.1 ∷ []) (mark (byte "]") ∷ [])))) (λ p f. refl))
     (λ i m. subst (IncomingFits w) m.is m.fits.0)
     (λ i f. record { from = (i.value, i.block); fits = (f, tt); is = refl })
@@ -97,7 +97,7 @@ part_spelled (PhiPart.Attached a) = refl
 phi_part_exact : (w : ℕ) → IsWidth w → (operands : Bool) → Exact (phi_part w operands) items.phi_part (PartFits w operands) anything
 unfolding phi_part
 phi_part_exact w h operands = spelled_exact (skip (the_mark (byte ",")) (part_reader w operands)) (λ p. mark (byte ",") ∷ after_comma p) items.phi_part (PartFits w operands) anything
-    (skip_exact (the_mark (byte ",")) (mark (byte ",")) (part_reader w operands) after_comma (PartFits w operands) anything (mark_exact 44) (part_reader_exact w h operands)) (λ p f. part_spelled p)
+    (skip_exact (the_mark (byte ",")) (mark (byte ",")) (part_reader w operands) after_comma (PartFits w operands) anything (mark_exact (byte ",")) (part_reader_exact w h operands)) (λ p f. part_spelled p)
 
 part_begins : (w : ℕ) (s : Bool) (p : PhiPart) → PartFits w s p → Begins (is_mark (byte ",")) (items.phi_part p)
 part_begins w s p f = record { head = mark (byte ","); more = after_comma p; is = sym (part_spelled p); passes = refl }

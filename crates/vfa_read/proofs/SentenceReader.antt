@@ -77,8 +77,8 @@ body_spelling p = mark (byte "{") ∷ ((spell.block p.0 ++ flat_map spell.block 
 
 pub body_exact : Exact body body_spelling BodyFits anything
 unfolding body
-body_exact = skip_exact (the_mark (byte "{")) (mark (byte "{")) (ended blocks (the_mark (byte "}"))) (λ p. (spell.block p.0 ++ flat_map spell.block p.1) ++ (mark (byte "}") ∷ [])) BodyFits anything (mark_exact 123)
-    (ended_exact blocks (the_mark (byte "}")) (mark (byte "}")) (λ p. spell.block p.0 ++ flat_map spell.block p.1) BodyFits (λ p. body_follow p.0 p.1) blocks_exact (mark_exact 125) (λ p f. brace_follows p.0 p.1))
+body_exact = skip_exact (the_mark (byte "{")) (mark (byte "{")) (ended blocks (the_mark (byte "}"))) (λ p. (spell.block p.0 ++ flat_map spell.block p.1) ++ (mark (byte "}") ∷ [])) BodyFits anything (mark_exact (byte "{"))
+    (ended_exact blocks (the_mark (byte "}")) (mark (byte "}")) (λ p. spell.block p.0 ++ flat_map spell.block p.1) BodyFits (λ p. body_follow p.0 p.1) blocks_exact (mark_exact (byte "}")) (λ p f. brace_follows p.0 p.1))
 
 -- the whole function
 

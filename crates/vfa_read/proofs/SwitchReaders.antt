@@ -25,7 +25,7 @@ case_pair w = after (one (literal_of w)) (λ _. skip (the_mark (byte ",")) targe
 
 case_pair_exact : (w : ℕ) → IsWidth w → Exact (case_pair w) (λ p. spell.literal p.0 ++ (mark (byte ",") ∷ spell.target p.1)) (λ p. FitsLiteral w p.0 × Unit {0}) anything
 case_pair_exact w h = after_exact (one (literal_of w)) (λ _. skip (the_mark (byte ",")) target) spell.literal (FitsLiteral w) anything (λ _ x. mark (byte ",") ∷ spell.target x) (λ _ _. Unit {0}) (λ _ x. anything x)
-    (literal_exact w h) (λ _ _. skip_exact (the_mark (byte ",")) (mark (byte ",")) target spell.target (λ _. Unit {0}) anything (mark_exact 44) target_exact)
+    (literal_exact w h) (λ _ _. skip_exact (the_mark (byte ",")) (mark (byte ",")) target spell.target (λ _. Unit {0}) anything (mark_exact (byte ",")) target_exact)
     (λ a b rest f g m. may_anything a ((mark (byte ",") ∷ spell.target b) ++ rest))
 
 pub case_exact : (w : ℕ) → IsWidth w → Exact (switch_case w) (spell.switch_case w) (CaseFits w) anything
@@ -77,8 +77,8 @@ abbrev closed_cases : ℕ → Reader (List SwitchCase)
 closed_cases w = skip (the_mark (byte "[")) (ended (switch_cases w) (the_mark (byte "]")))
 
 closed_cases_exact : (w : ℕ) → IsWidth w → Exact (closed_cases w) (λ cs. mark (byte "[") ∷ (flat_map (spell.switch_case w) cs ++ (mark (byte "]") ∷ []))) (CasesFit w) anything
-closed_cases_exact w h = skip_exact (the_mark (byte "[")) (mark (byte "[")) (ended (switch_cases w) (the_mark (byte "]"))) (λ cs. flat_map (spell.switch_case w) cs ++ (mark (byte "]") ∷ [])) (CasesFit w) anything (mark_exact 91)
-    (ended_exact (switch_cases w) (the_mark (byte "]")) (mark (byte "]")) (flat_map (spell.switch_case w)) (CasesFit w) case_follow (cases_exact w h) (mark_exact 93) (λ cs f. last_mark cs))
+closed_cases_exact w h = skip_exact (the_mark (byte "[")) (mark (byte "[")) (ended (switch_cases w) (the_mark (byte "]"))) (λ cs. flat_map (spell.switch_case w) cs ++ (mark (byte "]") ∷ [])) (CasesFit w) anything (mark_exact (byte "["))
+    (ended_exact (switch_cases w) (the_mark (byte "]")) (mark (byte "]")) (flat_map (spell.switch_case w)) (CasesFit w) case_follow (cases_exact w h) (mark_exact (byte "]")) (λ cs f. last_mark cs))
   where
     last_mark : (cs : List SwitchCase) → case_follow cs (mark (byte "]")) ≡ true
     last_mark [] = refl
@@ -99,7 +99,7 @@ switch_exact = made_exact switch_of (after (one type_of) (λ width. after (one (
     (λ w q. FitsValue w q.0 × (Unit {0} × CasesFit w q.1.1))
     (λ w h. after_exact (one (value_of w)) (λ _. skip (the_mark (byte ",")) (after target (λ _. closed_cases w))) spell.value (FitsValue w) anything
     (λ _ q. mark (byte ",") ∷ (spell.target q.0 ++ (mark (byte "[") ∷ (flat_map (spell.switch_case w) q.1 ++ (mark (byte "]") ∷ []))))) (λ _ q. Unit {0} × CasesFit w q.1) (λ _ q. anything q) (value_exact w h)
-    (λ _ _. skip_exact (the_mark (byte ",")) (mark (byte ",")) (after target (λ _. closed_cases w)) (λ q. spell.target q.0 ++ (mark (byte "[") ∷ (flat_map (spell.switch_case w) q.1 ++ (mark (byte "]") ∷ [])))) (λ q. Unit {0} × CasesFit w q.1) anything (mark_exact 44)
+    (λ _ _. skip_exact (the_mark (byte ",")) (mark (byte ",")) (after target (λ _. closed_cases w)) (λ q. spell.target q.0 ++ (mark (byte "[") ∷ (flat_map (spell.switch_case w) q.1 ++ (mark (byte "]") ∷ [])))) (λ q. Unit {0} × CasesFit w q.1) anything (mark_exact (byte ","))
     (after_exact target (λ _. closed_cases w) spell.target (λ _. Unit {0}) anything (λ _ cs. mark (byte "[") ∷ (flat_map (spell.switch_case w) cs ++ (mark (byte "]") ∷ []))) (λ _. CasesFit w) (λ _ cs. anything cs)
     target_exact (λ _ _. closed_cases_exact w h) (λ a b rest f g m. refl)))
     (λ a b rest f g m. may_anything a ((mark (byte ",") ∷ (spell.target b.0 ++ (mark (byte "[") ∷ (flat_map (spell.switch_case w) b.1 ++ (mark (byte "]") ∷ []))))) ++ rest))))

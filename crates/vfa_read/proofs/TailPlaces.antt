@@ -2,13 +2,15 @@
 use Rattle.std.proofs.Common.{◌≡◌, ◌≤◌, ◌+◌, ◌-◌, ◌==◌, ℕ, zero, suc, Bool, false, true, List, [], ◌∷◌, ◌++◌, length, take, drop, Option, Some, None, Ok, Err, refl, sym, ap, ◌∙◌, arith}
 use Rattle.std.proofs.lemmas.List.{drop-drop}
 use Rattle.std.proofs.lemmas.Bool.Decides.{nat_tests}
+use Rattle.std.specs.Str.{byte}
 use Rattle.vfa_ir.specs.Grammar.{may_follow_parameters}
 use Rattle.vfa_ir.specs.Lexemes.{Lexeme, local, global, label, nameless_local, nameless_global, nameless_label, metadata, group, number, mark, word, string, other}
 use Rattle.vfa_read.specs.Headers.{tail_from, tail_end}
 use Rattle.vfa_read.specs.Readers.{next_passes}
 use Rattle.vfa_read.specs.Trees.{between, open_after}
-use Rattle.vfa_read.proofs.Loops.{with_prefix, prefix_none_read, prefix_done, prefix_item, prefix_bad}
+use Rattle.vfa_read.proofs.Loops.{with_prefix, prefix_done, prefix_item, prefix_bad}
 use Rattle.vfa_read.proofs.TailReader.{tail_more, tail_closed, tail_done}
+use Rattle.vfa_read.proofs.Outcomes.{none_some, some_same}
 
 take_next : (n : ℕ) (xs ys : List Lexeme) (x : Lexeme) → drop n xs ≡ x ∷ ys → take (suc n) xs ≡ take n xs ++ (x ∷ [])
 take_next zero [] ys x e = cc
@@ -29,12 +31,6 @@ between_next all from at l h e =
     ap (λ z. take z (drop from all)) more
     ∙ take_next (at - from) (drop from all) (drop (at + 1) all) l (drop-drop (at - from) from all ∙ ap (λ z. drop z all) whole ∙ e)
 
-some_same : {n m : ℕ} → ◌≡◌ {A = Option ℕ} (Some n) (Some m) → n ≡ m
-some_same e = cc
-
-none_some : {n : ℕ} → ◌≡◌ {A = Option ℕ} None (Some n) → ⊥
-none_some e = cc
-
 same_depth : (depth next at : ℕ) → ◌≡◌ {A = Option ℕ} (Some depth) (Some next) → depth ≤ at → next ≤ at + 1
 same_depth depth next at e h = let k = some_same e in omega arith
 
@@ -50,9 +46,9 @@ deeper depth next at (group x) e h = same_depth depth next at e h
 deeper depth next at (number x) e h = same_depth depth next at e h
 deeper depth next at (word x) e h = same_depth depth next at e h
 deeper depth next at string e h = same_depth depth next at e h
-deeper depth next at (mark c) e h = go (c == 40) refl (c == 41) refl (depth == 0) refl
+deeper depth next at (mark c) e h = go (c == byte "(") refl (c == byte ")") refl (depth == 0) refl
   where
-    go : (a : Bool) → (c == 40) ≡ a → (b : Bool) → (c == 41) ≡ b → (z : Bool) → (depth == 0) ≡ z → next ≤ at + 1
+    go : (a : Bool) → (c == byte "(") ≡ a → (b : Bool) → (c == byte ")") ≡ b → (z : Bool) → (depth == 0) ≡ z → next ≤ at + 1
     go true a b p z q =
         let o : open_after depth (mark c) ≡ Some (depth + 1) = rw a refl in
         let k = some_same (sym o ∙ e) in

@@ -10,6 +10,7 @@ use Rattle.vfa_read.specs.Readers.{next_passes}
 use Rattle.vfa_read.specs.Trees.{open_after}
 use Rattle.vfa_read.proofs.Exact.{Exact, Stops, may, made_err, ok_value, ok_rest}
 use Rattle.vfa_read.proofs.Words.{and_parts}
+use Rattle.vfa_read.proofs.Outcomes.{err_ok}
 
 -- what the place of a lexeme says of it
 
@@ -20,15 +21,15 @@ data Says (l : Lexeme) : Place → Type 0 where
   says_leaves : may_follow_parameters l ≡ false → Says l leaves
 
 says_mark : (c : ℕ) → Says (mark c) (place_of (mark c))
-says_mark c = go (c == 40) refl (c == 41) refl (may_follow_parameters (mark c)) refl
+says_mark c = go (c == byte "(") refl (c == byte ")") refl (may_follow_parameters (mark c)) refl
   where
-    go : (a : Bool) → (c == 40) ≡ a → (b : Bool) → (c == 41) ≡ b → (m : Bool) → may_follow_parameters (mark c) ≡ m → Says (mark c) (place_of (mark c))
+    go : (a : Bool) → (c == byte "(") ≡ a → (b : Bool) → (c == byte ")") ≡ b → (m : Bool) → may_follow_parameters (mark c) ≡ m → Says (mark c) (place_of (mark c))
     go true a b p m q =
-        let is = eqb-true c 40 a in
+        let is = eqb-true c (byte "(") a in
         let place : place_of (mark c) ≡ opens = rw a refl in
         subst (Says (mark c)) (sym place) (says_opens (ap (λ z. may_follow_parameters (mark z)) is) (λ n t. rw a refl))
     go false a true b m q =
-        let is = eqb-true c 41 b in
+        let is = eqb-true c (byte ")") b in
         let place : place_of (mark c) ≡ closes = rw (a, b) refl in
         subst (Says (mark c)) (sym place) (says_closes (ap (λ z. may_follow_parameters (mark z)) is) (λ n t. rw (a, b) refl))
     go false a false b true q =
@@ -87,9 +88,6 @@ TailFits n t = AllByRecursion (λ l. IsTrue (may_follow_parameters l)) t × (is_
 
 abbrev pub tail_follow : List Lexeme → Lexeme → Bool
 tail_follow t l = not (may_follow_parameters l)
-
-err_ok : {k : ℕ} {p : List Lexeme × List Lexeme} → ◌≡◌ {A = Result (List Lexeme × List Lexeme) ℕ} (Err k) (Ok p) → ⊥
-err_ok e = cc
 
 err_same : {k m : ℕ} → ◌≡◌ {A = Result (List Lexeme × List Lexeme) ℕ} (Err k) (Err m) → k ≡ m
 err_same e = cc
@@ -261,20 +259,14 @@ tail_exact n = record {
 
 -- one lexeme after another, by how many parentheses are open
 
-none_some : {n : ℕ} → ◌≡◌ {A = Option ℕ} None (Some n) → ⊥
-none_some e = cc
-
-some_same : {n m : ℕ} → ◌≡◌ {A = Option ℕ} (Some n) (Some m) → n ≡ m
-some_same e = cc
-
 abbrev Next : ℕ → Lexeme → List Lexeme → Option ℕ → Type 0
 Next n l ls None = tail_from n (l ∷ ls) ≡ Err (suc (length ls))
 Next n l ls (Some m) = tail_from n (l ∷ ls) ≡ with_lexeme l (tail_from m ls)
 
 next_mark : (c n : ℕ) (ls : List Lexeme) → may_follow_parameters (mark c) ≡ true → Next n (mark c) ls (open_after n (mark c))
-next_mark c n ls f = go (c == 40) refl (c == 41) refl
+next_mark c n ls f = go (c == byte "(") refl (c == byte ")") refl
   where
-    closes_by : (n : ℕ) → (c == 40) ≡ false → (c == 41) ≡ true → Next n (mark c) ls (if n == 0 then None else Some (n - 1))
+    closes_by : (n : ℕ) → (c == byte "(") ≡ false → (c == byte ")") ≡ true → Next n (mark c) ls (if n == 0 then None else Some (n - 1))
     closes_by zero a b = step_closed (mark c) ls (rw (a, b) refl)
     closes_by (suc m) a b =
         let z = not_zero m in
@@ -282,7 +274,7 @@ next_mark c n ls f = go (c == 40) refl (c == 41) refl
         let e : (if suc m == 0 then None else Some (suc m - 1)) ≡ Some m = rw (z, less) refl in
         subst (Next (suc m) (mark c) ls) (sym e) (step_closes (mark c) ls m (rw (a, b) refl))
 
-    go : (a : Bool) → (c == 40) ≡ a → (b : Bool) → (c == 41) ≡ b → Next n (mark c) ls (open_after n (mark c))
+    go : (a : Bool) → (c == byte "(") ≡ a → (b : Bool) → (c == byte ")") ≡ b → Next n (mark c) ls (open_after n (mark c))
     go true a b q =
         let e : open_after n (mark c) ≡ Some (n + 1) = rw a refl in
         subst (Next n (mark c) ls) (sym e) (step_opens (mark c) ls n (rw a refl) ∙ ap (λ z. with_lexeme (mark c) (tail_from z ls)) (sym (add-one n)))

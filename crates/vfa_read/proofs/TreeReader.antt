@@ -15,9 +15,7 @@ use Rattle.vfa_read.proofs.Exact.{made_err, ok_value, ok_rest}
 use Rattle.vfa_read.proofs.HeaderReaders.{header_exact}
 use Rattle.vfa_read.proofs.SentenceReader.{body_exact, sentence_exact, is_sentence, stops_after, stops_before, unfinished}
 use Rattle.vfa_read.proofs.TailReader.{tail_exact}
-
-err_ok : {A : Type 0} {n : ℕ} {x : A} → ◌≡◌ {A = Result A ℕ} (Err n) (Ok x) → ⊥
-err_ok e = cc
+use Rattle.vfa_read.proofs.Outcomes.{err_ok}
 
 nil_cons : {l : Lexeme} {ls : List Lexeme} → [] ≡ l ∷ ls → ⊥
 nil_cons e = cc

@@ -1,5 +1,5 @@
 -- Uses one after the other: the first that is not defined.
-use Rattle.std.proofs.Common.{◌≡◌, ◌∙◌, ℕ, List, [], ◌∷◌, ◌++◌, Bool, true, false, if◌then◌else◌, Some, None, Result, Ok, Err, refl, sym, ap, subst, append_assoc, ◌<◌, length, get_or, All, drop, ◌+◌, IfErr}
+use Rattle.std.proofs.Common.{◌≡◌, ◌∙◌, ℕ, List, [], ◌∷◌, ◌++◌, Bool, true, false, if◌then◌else◌, Some, None, Result, Ok, Err, refl, sym, ap, subst, append_assoc, drop, ◌+◌}
 use Rattle.std.specs.Result.{IsErrAnd}
 use Rattle.vfa_ir.specs.declared.reasons.Outside.{Outside}
 use Rattle.vfa_ir.specs.DefinedNames.{Use, is_known, used_name}
