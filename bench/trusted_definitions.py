@@ -1,10 +1,10 @@
 #!/usr/bin/env python3
-"""Prints the files of definitions that stand behind the clauses of a function, and those behind no public contract.
+"""Prints the files of definitions that stand under the clauses of a function, and those under no public contract.
 
 usage: bench/trusted_definitions.py [CRATE FUNCTION]      (default: vfa vfa_run)
 
 A clause names definitions; a definition names others by its `use` lines. Both are followed to the end. Files are printed
-lowest first, as they are read. With --check it exits with 1 where docs/TRUST.md names other files, or where a file behind no
+lowest first, as they are read. With --check it exits with 1 where docs/TRUST.md names other files, or where a file under no
 public contract does not say so in its first line, or another one does.
 """
 import pathlib
@@ -77,7 +77,7 @@ def named(source, contracts):
     return {known[word] for part in contracts for word in re.findall(r"[\w']+", part) if word in known}
 
 
-def behind(crate, function):
+def under(crate, function):
     start = set()
     for source in (ROOT / "crates" / crate / "src").rglob("*.rt"):
         text = source.read_text()
@@ -102,10 +102,10 @@ def specs():
 def main():
     words = [w for w in sys.argv[1:] if w != "--check"]
     crate, function = words if len(words) == 2 else ("vfa", "vfa_run")
-    trusted = behind(crate, function)
+    trusted = under(crate, function)
     inner = [f for f in specs() if f not in set(public())]
     name = lambda f: str(f.relative_to(ROOT / "crates"))
-    print(f"{len(trusted)} of {len(specs())} files stand behind {crate}::{function}:")
+    print(f"{len(trusted)} of {len(specs())} files stand under {crate}::{function}:")
     for file in trusted:
         print("  " + name(file))
     print(f"{len(inner)} files are in no public contract:")

@@ -1,6 +1,5 @@
 -- Names that stand once, and their places.
-use Rattle.std.proofs.Common.{◌≡◌, ◌∙◌, ℕ, suc, ◌+◌, ◌<◌, ◌≤◌, Bool, true, false, not, ◌||◌, cond, nat_lt, List, [], ◌∷◌, ◌++◌, length, map, if◌then◌else◌, Some, None, unwrap_or, bytes_eq, refl, sym, ap, subst, arith, append_assoc, length-append, true≢false}
-use Rattle.std.proofs.lemmas.Bool.Decides.{nat_tests}
+use Rattle.std.proofs.Common.{◌≡◌, ◌∙◌, ℕ, suc, ◌+◌, ◌<◌, ◌≤◌, Bool, true, false, not, ◌||◌, cond, nat_lt, List, [], ◌∷◌, ◌++◌, length, map, if◌then◌else◌, Some, None, unwrap_or, bytes_eq, refl, sym, ap, subst, arith, append_assoc, length-append, true≢false, lt-ltb}
 use Rattle.std.proofs.lemmas.Slice.Eq.{bytes_eq-Decides}
 use Rattle.std.specs.List.{AllByRecursion, IsDistinct, position, position_or_len, range_with_len}
 use Rattle.vfa_ir.specs.DefinedNames.{first_repeated}
@@ -76,11 +75,8 @@ distinct_once (x ∷ xs) once =
 -- the place of a name
 place_at : (p : List ℕ → Bool) (xs : List (List ℕ)) (i : ℕ) → position_or_len p xs ≡ i → i < length xs → unwrap_or (position p xs) 0 ≡ i
 place_at p xs i e h =
-    let inside : nat_lt (position_or_len p xs) (length xs) ≡ true = (rw e (lt_true i (length xs) h)) in
+    let inside : nat_lt (position_or_len p xs) (length xs) ≡ true = (rw e (lt-ltb i (length xs) h)) in
     rw (inside) e
-  where
-    lt_true : (a b : ℕ) → a < b → nat_lt a b ≡ true
-    lt_true a b h = grind (arith, nat_tests)
 
 among_at : (n : List ℕ) (xs : List (List ℕ)) → is_among n xs ≡ true → position_or_len (bytes_eq n) xs < length xs
 among_at n [] h = absurd (true≢false (sym h))
@@ -105,8 +101,8 @@ first_at n (x ∷ before) rest h = go (bytes_eq n x) h (first_at n before rest)
     go true e again = absurd (omega arith)
     go false e again = let k = again (omega arith) in omega arith
 
-pub place_behind : (n : List ℕ) (before rest : List (List ℕ)) → occurs n before ≡ 0 → place_of (before ++ (n ∷ rest)) n ≡ length before
-place_behind n before rest h =
+pub place_after : (n : List ℕ) (before rest : List (List ℕ)) → occurs n before ≡ 0 → place_of (before ++ (n ∷ rest)) n ≡ length before
+place_after n before rest h =
     let long : length (before ++ (n ∷ rest)) ≡ length before + suc (length rest) = length-append before (n ∷ rest) in
     place_at (bytes_eq n) (before ++ (n ∷ rest)) (length before) (first_at n before rest h) (omega arith)
 
@@ -119,7 +115,7 @@ places_from all before (x ∷ rest) e once =
     let most : occurs x all ≤ 1 = once x in
     let parts : occurs x all ≡ occurs x before + (one_if (bytes_eq x x) + occurs x rest) = ap (occurs x) e ∙ occurs-append x before (x ∷ rest) in
     let one : one_if (bytes_eq x x) ≡ 1 = ap one_if (same_itself x) in
-    let here : place_of all x ≡ length before = ap (λ z. place_of z x) e ∙ place_behind x before rest (omega arith) in
+    let here : place_of all x ≡ length before = ap (λ z. place_of z x) e ∙ place_after x before rest (omega arith) in
     let again = places_from all (before ++ (x ∷ [])) rest (e ∙ sym (append_assoc before (x ∷ []) rest)) once in
     let long : length (before ++ (x ∷ [])) ≡ length before + 1 = length-append before (x ∷ []) in
     ap (λ i. i ∷ map (place_of all) rest) here ∙ ap (λ r. length before ∷ r) (again ∙ ap (λ i. range_with_len i (length rest)) long)

@@ -1,7 +1,7 @@
 -- Tokens written one list after the other, and what they write.
 use Rattle.std.proofs.Common.{◌≡◌, ℕ, List, [], ◌∷◌, ◌++◌, map, false, refl, ap, append_assoc, append-nil, sym, ◌∙◌, Result, Ok, Err, IfOk}
 use Rattle.vfa_ir.specs.Lexemes.{Lexeme, word}
-use Rattle.vfa_print.specs.Layout.{blank_between, takes_blank_before, takes_blank_behind, lexeme_text, written, text_line, line_feed}
+use Rattle.vfa_print.specs.Layout.{blank_between, takes_blank_before, takes_blank_after, lexeme_text, written, text_line, line_feed}
 use Rattle.vfa_print.specs.Writing.{Draft, with_token, with_tokens, with_bytes}
 
 pub with_tokens_append : (d : Draft) (xs ys : List Lexeme) → with_tokens d (xs ++ ys) ≡ with_tokens (with_tokens d xs) ys
@@ -15,12 +15,12 @@ pub words_append :
 words_append d [] ys = refl
 words_append d (x ∷ xs) ys = words_append (with_token d (word x)) xs ys
 
-pub text_of_tokens : (d : Draft) (ls : List Lexeme) → (with_tokens d ls).text ≡ d.text ++ written d.behind ls
+pub text_of_tokens : (d : Draft) (ls : List Lexeme) → (with_tokens d ls).text ≡ d.text ++ written d.blank_due ls
 unfolding with_token
 text_of_tokens d [] = sym (append-nil d.text)
 text_of_tokens d (l ∷ rest) =
-    let blank = blank_between d.behind (takes_blank_before l) in
-    let more = written (takes_blank_behind l) rest in
+    let blank = blank_between d.blank_due (takes_blank_before l) in
+    let more = written (takes_blank_after l) rest in
     text_of_tokens (with_token d l) rest
     ∙ append_assoc d.text (blank ++ lexeme_text l) more
     ∙ ap (λ t. d.text ++ t) (append_assoc blank (lexeme_text l) more)

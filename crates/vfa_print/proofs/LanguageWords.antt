@@ -1,15 +1,16 @@
 -- The words of the language are runs that are no numbers.
-use Rattle.std.proofs.Common.{◌≡◌, ◌∙◌, ℕ, ◌<◌, ◌≤◌, ◌^◌, Bool, true, false, not, ◌&&◌, ◌||◌, ◌==◌, List, [], ◌∷◌, codes, decimal, bytes_eq, refl, sym, ap, subst, arith}
+use Rattle.std.proofs.Common.{◌≡◌, ◌∙◌, ℕ, ◌<◌, ◌≤◌, ◌^◌, Bool, true, false, not, ◌&&◌, ◌||◌, List, [], ◌∷◌, codes, decimal, bytes_eq, refl, sym, ap, subst, arith}
 use Rattle.std.specs.List.{list_all}
-use Rattle.std.specs.Char.{is_ascii_digit}
+use Rattle.std.specs.Char.{is_ascii_alphabetic, is_ascii_digit}
 use Rattle.std.proofs.lemmas.Slice.Eq.{bytes_eq-Decides}
 use Rattle.std.proofs.lemmas.Fmt.{decimal_is_IsNumeral_wide}
+use Rattle.std.specs.Str.{byte}
 use Rattle.vfa_ir.specs.declared.operations.Bin.{Bin}
 use Rattle.vfa_ir.specs.declared.operations.Cast.{Cast}
 use Rattle.vfa_ir.specs.declared.operations.Pred.{Pred}
 use Rattle.vfa_ir.specs.Grammar.{IsWidth}
-use Rattle.vfa_ir.specs.Tokens.{is_digit, is_letter, is_run_byte}
-use Rattle.vfa_ir.specs.Words.{is_among, is_number, type_word, bin_word, cast_word, pred_word, lead_words, parameter_words, call_words, flags_of, cast_flags_of}
+use Rattle.vfa_ir.specs.Tokens.{is_run_byte}
+use Rattle.vfa_ir.specs.Words.{is_among, is_in, is_number, type_word, bin_word, cast_word, pred_word, lead_words, parameter_words, call_words, flags_of, cast_flags_of}
 use Rattle.vfa_print.proofs.Lexed.{IsRunWord}
 use Rattle.vfa_print.proofs.SignedTexts.{all_digits}
 
@@ -43,28 +44,28 @@ among_run text (one ∷ texts) e all =
     either_run (bytes_eq text one) text one (is_among text texts) refl (run_word one p.0) (λ more. among_run text texts more p.1) e
 
 lead_test : list_all is_run_word lead_words ≡ true
-unfolding is_run_byte is_letter is_digit
+unfolding is_run_byte
 lead_test = refl
 
 pub lead_run : (text : List ℕ) → is_among text lead_words ≡ true → IsRunWord text
 lead_run text e = among_run text lead_words e lead_test
 
 parameter_test : list_all is_run_word parameter_words ≡ true
-unfolding is_run_byte is_letter is_digit
+unfolding is_run_byte
 parameter_test = refl
 
 pub parameter_run : (text : List ℕ) → is_among text parameter_words ≡ true → IsRunWord text
 parameter_run text e = among_run text parameter_words e parameter_test
 
 call_test : list_all is_run_word call_words ≡ true
-unfolding is_run_byte is_letter is_digit
+unfolding is_run_byte
 call_test = refl
 
 pub call_run : (text : List ℕ) → is_among text call_words ≡ true → IsRunWord text
 call_run text e = among_run text call_words e call_test
 
 flags_test : (bin : Bin) → list_all is_run_word (flags_of bin) ≡ true
-unfolding is_run_byte is_letter is_digit
+unfolding is_run_byte
 flags_test Bin.Add = refl
 flags_test Bin.Sub = refl
 flags_test Bin.Mul = refl
@@ -83,7 +84,7 @@ pub flag_run : (bin : Bin) (text : List ℕ) → is_among text (flags_of bin) �
 flag_run bin text e = among_run text (flags_of bin) e (flags_test bin)
 
 cast_flags_test : (cast : Cast) → list_all is_run_word (cast_flags_of cast) ≡ true
-unfolding is_run_byte is_letter is_digit
+unfolding is_run_byte
 cast_flags_test Cast.Zext = refl
 cast_flags_test Cast.Sext = refl
 cast_flags_test Cast.Trunc = refl
@@ -92,7 +93,7 @@ pub cast_flag_run : (cast : Cast) (text : List ℕ) → is_among text (cast_flag
 cast_flag_run cast text e = among_run text (cast_flags_of cast) e (cast_flags_test cast)
 
 bin_test : (bin : Bin) → is_run_word (bin_word bin) ≡ true
-unfolding is_run_byte is_letter is_digit
+unfolding is_run_byte
 bin_test Bin.Add = refl
 bin_test Bin.Sub = refl
 bin_test Bin.Mul = refl
@@ -111,7 +112,7 @@ pub bin_run : (bin : Bin) → IsRunWord (bin_word bin)
 bin_run bin = run_word (bin_word bin) (bin_test bin)
 
 pred_test : (pred : Pred) → is_run_word (pred_word pred) ≡ true
-unfolding is_run_byte is_letter is_digit
+unfolding is_run_byte
 pred_test Pred.Eq = refl
 pred_test Pred.Ne = refl
 pred_test Pred.Ugt = refl
@@ -127,7 +128,7 @@ pub pred_run : (pred : Pred) → IsRunWord (pred_word pred)
 pred_run pred = run_word (pred_word pred) (pred_test pred)
 
 cast_test : (cast : Cast) → is_run_word (cast_word cast) ≡ true
-unfolding is_run_byte is_letter is_digit
+unfolding is_run_byte
 cast_test Cast.Zext = refl
 cast_test Cast.Sext = refl
 cast_test Cast.Trunc = refl
@@ -142,22 +143,22 @@ fixed_words = codes "define" ∷ codes "true" ∷ codes "false" ∷ codes "poiso
     ∷ codes "br" ∷ codes "switch" ∷ codes "unreachable" ∷ []
 
 fixed_test : list_all is_run_word fixed_words ≡ true
-unfolding is_run_byte is_letter is_digit
+unfolding is_run_byte
 fixed_test = refl
 
 pub fixed_run : (text : List ℕ) → is_among text fixed_words ≡ true → IsRunWord text
 fixed_run text e = among_run text fixed_words e fixed_test
 
 -- `iN`
-or_each : (a b c d e : Bool) → (a || true || b || c || d || e) ≡ true
-or_each true b c d e = refl
-or_each false b c d e = refl
+or_each : (a b : Bool) → (a || true || b) ≡ true
+or_each true b = refl
+or_each false b = refl
 
 digit_run : (c : ℕ) → is_ascii_digit c ≡ true → is_run_byte c ≡ true
-unfolding is_run_byte is_digit
-digit_run c e = rw e (or_each (is_letter c) (c == 45) (c == 36) (c == 46) (c == 95))
+unfolding is_run_byte
+digit_run c e = rw e (or_each (is_ascii_alphabetic c) (is_in c (codes "-$._")))
 
-digit_runs : (ds : List ℕ) → list_all is_ascii_digit ds ≡ true → list_all is_run_byte ds ≡ true
+pub digit_runs : (ds : List ℕ) → list_all is_ascii_digit ds ≡ true → list_all is_run_byte ds ≡ true
 digit_runs [] e = refl
 digit_runs (c ∷ cs) e =
     let p = and_parts (is_ascii_digit c) (list_all is_ascii_digit cs) e in
@@ -166,7 +167,7 @@ digit_runs (c ∷ cs) e =
     rw (a, b) refl
 
 letter_run : is_run_byte 105 ≡ true
-unfolding is_run_byte is_letter is_digit
+unfolding is_run_byte
 letter_run = refl
 
 pub type_run : (width : ℕ) → IsWidth width → IsRunWord (type_word width)
@@ -175,5 +176,5 @@ type_run width h =
     let small : width < 10 ^ 64 = omega arith in
     let digits = all_digits (decimal width) (decimal_is_IsNumeral_wide width small).0.1 in
     let runs : list_all is_run_byte (decimal width) ≡ true = digit_runs (decimal width) digits in
-    let all : list_all is_run_byte (105 ∷ decimal width) ≡ true = ap (λ b. b && list_all is_run_byte (decimal width)) letter_run ∙ runs in
+    let all : list_all is_run_byte (byte "i" ∷ decimal width) ≡ true = ap (λ b. b && list_all is_run_byte (decimal width)) letter_run ∙ runs in
     record { some = λ e. cc; runs = all; no_number = refl }

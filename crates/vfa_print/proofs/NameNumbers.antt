@@ -1,22 +1,15 @@
 -- Decimals as names, and places in lists of names.
-use Rattle.std.proofs.Common.{◌≡◌, ◌∙◌, ℕ, zero, suc, ◌+◌, ◌/◌, ◌%◌, ◌<◌, ◌≤◌, ◌^◌, if◌then◌else◌, Bool, true, false, ◌&&◌, ◌||◌, ◌==◌, cond, nat_lt, nat_le, List, [], ◌∷◌, map, length, Option, Some, None, unwrap_or, slice_get, decimal, bytes_eq, option_and_then, refl, sym, ap, arith, add-one}
+use Rattle.std.proofs.Common.{◌≡◌, ◌∙◌, ℕ, zero, suc, ◌+◌, ◌/◌, ◌%◌, ◌<◌, ◌≤◌, ◌^◌, if◌then◌else◌, Bool, true, false, ◌&&◌, ◌||◌, ◌==◌, cond, nat_lt, nat_le, List, [], ◌∷◌, map, length, Option, Some, None, unwrap_or, slice_get, decimal, bytes_eq, option_and_then, refl, sym, ap, arith, add-one, lt-ltb, le-leb}
 use Rattle.std.specs.Char.{is_ascii_digit}
 use Rattle.std.specs.Fmt.{digits, digits_onto, digit_glyph}
 use Rattle.std.specs.List.{list_all, range_with_len, position_or_len}
 use Rattle.std.specs.Str.Parse.{digits_value}
-use Rattle.std.proofs.lemmas.Bool.Decides.{nat_tests}
 use Rattle.std.proofs.lemmas.Fmt.{decimal_is_IsNumeral_wide}
 use Rattle.std.proofs.lemmas.List.FromFn.{length-map-range_with_len}
-use Rattle.std.proofs.lemmas.Slice.Eq.{bytes_eq-Decides}
 use Rattle.vfa_ir.specs.Resolution.{place_of}
 use Rattle.vfa_ir.specs.Words.{is_among, is_digits}
 use Rattle.vfa_print.specs.Trees.{name_at}
-
-pub same_text : (a b : List ℕ) → bytes_eq a b ≡ true → a ≡ b
-same_text a b e = (bytes_eq-Decides a b).0 e
-
-pub same_itself : (a : List ℕ) → bytes_eq a a ≡ true
-same_itself a = (bytes_eq-Decides a a).1 refl
+use Rattle.vfa_print.proofs.DistinctNames.{same_itself, same_text}
 
 -- a text that is no other
 pub other_text : (a b : List ℕ) → (a ≡ b → ⊥) → bytes_eq a b ≡ false
@@ -27,17 +20,11 @@ other_text a b differ = by (bytes_eq a b) refl
     by false e = e
 
 -- decimals
-le_true : (a b : ℕ) → a ≤ b → nat_le a b ≡ true
-le_true a b h = grind (arith, nat_tests)
-
-lt_true : (a b : ℕ) → a < b → nat_lt a b ≡ true
-lt_true a b h = grind (arith, nat_tests)
-
 glyph_is_digit : (d : ℕ) → d < 10 → is_ascii_digit (digit_glyph false d) ≡ true
 glyph_is_digit d h =
-    let small : nat_lt d 10 ≡ true = lt_true d 10 h in
-    let a : nat_le 48 (48 + d) ≡ true = le_true 48 (48 + d) (omega arith) in
-    let b : nat_le (48 + d) 57 ≡ true = le_true (48 + d) 57 (omega arith) in
+    let small : nat_lt d 10 ≡ true = lt-ltb d 10 h in
+    let a : nat_le 48 (48 + d) ≡ true = le-leb 48 (48 + d) (omega arith) in
+    let b : nat_le (48 + d) 57 ≡ true = le-leb (48 + d) 57 (omega arith) in
     rw small (rw (a, b) refl)
 
 digits_stay :
@@ -45,39 +32,39 @@ digits_stay :
     list_all is_ascii_digit (digits_onto k 10 false n acc) ≡ true
 digits_stay zero n acc h = h
 digits_stay (suc k) n acc h =
-    let front : List ℕ = digit_glyph false (n % 10) ∷ acc in
+    let prefix : List ℕ = digit_glyph false (n % 10) ∷ acc in
     let small : n % 10 < 10 = omega arith in
-    let all : list_all is_ascii_digit front ≡ true =
+    let all : list_all is_ascii_digit prefix ≡ true =
     ap (λ b. b && list_all is_ascii_digit acc) (glyph_is_digit (n % 10) small) ∙ h in
-    by (n / 10 == 0) front all (digits_stay k (n / 10) front all)
+    by (n / 10 == 0) prefix all (digits_stay k (n / 10) prefix all)
   where
     by :
-        (b : Bool) (front : List ℕ) → list_all is_ascii_digit front ≡ true →
-        list_all is_ascii_digit (digits_onto k 10 false (n / 10) front) ≡ true →
-        list_all is_ascii_digit (if b then front else digits_onto k 10 false (n / 10) front) ≡ true
-    by true front all left = all
-    by false front all left = left
+        (b : Bool) (prefix : List ℕ) → list_all is_ascii_digit prefix ≡ true →
+        list_all is_ascii_digit (digits_onto k 10 false (n / 10) prefix) ≡ true →
+        list_all is_ascii_digit (if b then prefix else digits_onto k 10 false (n / 10) prefix) ≡ true
+    by true prefix all left = all
+    by false prefix all left = left
 
 digits_grow : (k n : ℕ) (acc : List ℕ) → length acc ≤ length (digits_onto k 10 false n acc)
 digits_grow zero n acc = omega arith
 digits_grow (suc k) n acc =
-    let front : List ℕ = digit_glyph false (n % 10) ∷ acc in by (n / 10 == 0) front (omega arith) (digits_grow k (n / 10) front)
+    let prefix : List ℕ = digit_glyph false (n % 10) ∷ acc in by (n / 10 == 0) prefix (omega arith) (digits_grow k (n / 10) prefix)
   where
     by :
-        (b : Bool) (front : List ℕ) → length acc ≤ length front → length front ≤ length (digits_onto k 10 false (n / 10) front) →
-        length acc ≤ length (if b then front else digits_onto k 10 false (n / 10) front)
-    by true front more left = more
-    by false front more left = omega (arith, more, left)
+        (b : Bool) (prefix : List ℕ) → length acc ≤ length prefix → length prefix ≤ length (digits_onto k 10 false (n / 10) prefix) →
+        length acc ≤ length (if b then prefix else digits_onto k 10 false (n / 10) prefix)
+    by true prefix more left = more
+    by false prefix more left = omega (arith, more, left)
 
 digits_some : (k n : ℕ) → 0 < length (digits_onto (suc k) 10 false n [])
 digits_some k n = by (n / 10 == 0)
   where
-    front : List ℕ
-    front = digit_glyph false (n % 10) ∷ []
+    prefix : List ℕ
+    prefix = digit_glyph false (n % 10) ∷ []
 
-    by : (b : Bool) → 0 < length (if b then front else digits_onto k 10 false (n / 10) front)
+    by : (b : Bool) → 0 < length (if b then prefix else digits_onto k 10 false (n / 10) prefix)
     by true = omega arith
-    by false = let more = digits_grow k (n / 10) front in omega (arith, more)
+    by false = let more = digits_grow k (n / 10) prefix in omega (arith, more)
 
 are_digits : (ds : List ℕ) → 0 < length ds → list_all is_ascii_digit ds ≡ true → is_digits ds ≡ true
 are_digits [] h d = absurd (omega arith)
@@ -139,11 +126,11 @@ place-range g n differ k h =
     (λ i small. let zero_i : 0 + i ≡ i = omega arith in ap (λ j. p (g j)) zero_i
     ∙ other_text (g k) (g i) (λ e. let no = differ k i h (omega arith) e in absurd (omega arith))) in
     let long : length names ≡ n = length-map-range_with_len g 0 n in
-    let within : nat_lt k n ≡ true = lt_true k n h in
+    let within : nat_lt k n ≡ true = lt-ltb k n h in
     ap (λ m. unwrap_or (cond (nat_lt m (length names)) (Some m) None) 0) at
     ∙ ap (λ m. unwrap_or (cond (nat_lt k m) (Some k) None) 0) long ∙ if_within (nat_lt k n) k within
 
-or_true : (a b : Bool) → b ≡ true → (a || b) ≡ true
+pub or_true : (a b : Bool) → b ≡ true → (a || b) ≡ true
 or_true true b e = refl
 or_true false b e = e
 

@@ -1,6 +1,5 @@
 -- The ids of a function that is read stand in text order, and its names are defined once.
-use Rattle.std.proofs.Common.{◌≡◌, ◌∙◌, ℕ, zero, suc, ◌+◌, ◌/◌, ◌%◌, ◌<◌, ◌≤◌, ◌==◌, Bool, true, false, nat_lt, nat_le, List, [], ◌∷◌, ◌++◌, length, map, flat_map, filter_map, take, drop, All, bytes_eq, count_by, if◌then◌else◌, Option, Some, None, unwrap_or, decimal, refl, sym, ap, subst, arith, length-append, add-one}
-use Rattle.std.proofs.lemmas.Bool.Decides.{nat_tests}
+use Rattle.std.proofs.Common.{◌≡◌, ◌∙◌, ℕ, zero, suc, ◌+◌, ◌/◌, ◌%◌, ◌<◌, ◌≤◌, ◌==◌, Bool, true, false, nat_lt, List, [], ◌∷◌, ◌++◌, length, map, flat_map, filter_map, take, drop, All, bytes_eq, count_by, if◌then◌else◌, Option, Some, None, unwrap_or, decimal, refl, sym, ap, subst, arith, length-append, add-one, lt-ltb, le-leb}
 use Rattle.std.proofs.lemmas.List.Elements.{All-from_recursion, recursion_from_All, filter_map-append}
 use Rattle.std.proofs.Math.Seq.{take-append_seam, drop-append_seam}
 use Rattle.std.specs.Char.{is_ascii_digit}
@@ -21,16 +20,10 @@ use Rattle.vfa_print.proofs.ResultsInOrder.{blocks_length, blocks_names, blocks_
 glyph_digit : (n : ℕ) → is_ascii_digit (digit_glyph false (n % 10)) ≡ true
 glyph_digit n =
     let small : n % 10 < 10 = omega arith in
-    let low : nat_lt (n % 10) 10 ≡ true = lt_true (n % 10) 10 small in
-    let a = le_true 48 (48 + n % 10) (omega arith) in
-    let b = le_true (48 + n % 10) 57 (omega arith) in
+    let low : nat_lt (n % 10) 10 ≡ true = lt-ltb (n % 10) 10 small in
+    let a = le-leb 48 (48 + n % 10) (omega arith) in
+    let b = le-leb (48 + n % 10) 57 (omega arith) in
     rw low (rw (a, b) refl)
-  where
-    lt_true : (a b : ℕ) → a < b → nat_lt a b ≡ true
-    lt_true a b h = grind (arith, nat_tests)
-
-    le_true : (a b : ℕ) → a ≤ b → nat_le a b ≡ true
-    le_true a b h = grind (arith, nat_tests)
 
 one_more : (n : ℕ) (acc : List ℕ) → list_all is_ascii_digit acc ≡ true → is_digits (digit_glyph false (n % 10) ∷ acc) ≡ true
 one_more n acc h = let g = glyph_digit n in rw g h

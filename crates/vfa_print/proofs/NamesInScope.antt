@@ -110,13 +110,13 @@ module _ (f : Function) (printable : IsPrintable f) where
       let ids : List ℕ = map (λ p. p.value.0) f.params in
       let whole : length (ids_of f) ≡ length f.values = ap length printable.ids ∙ length-range_with_len 0 (length f.values) in
       let parts = length-append ids (flat_map block_ids f.blocks) in
-      let front = length-map f.params (λ p. p.value.0) in
+      let prefix = length-map f.params (λ p. p.value.0) in
       omega arith
 
   param_place : (k : ℕ) (d : Param) → k < length f.params → (get_or f.params k d).value.0 ≡ k
   param_place k d lt =
       let ids : List ℕ = map (λ p. p.value.0) f.params in
-      let front : length ids ≡ length f.params = length-map f.params (λ p. p.value.0) in
+      let prefix : length ids ≡ length f.params = length-map f.params (λ p. p.value.0) in
       let within : k < length f.values = let le = params_within in omega arith in
       sym (get_or-map (λ p. p.value.0) f.params k d 0 lt)
       ∙ sym (get_or_append_left ids (flat_map block_ids f.blocks) 0 k (omega arith))

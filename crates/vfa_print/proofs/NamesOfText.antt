@@ -2,6 +2,7 @@
 use Rattle.std.proofs.Common.{◌≡◌, ◌∙◌, ℕ, ◌+◌, ◌-◌, ◌==◌, Bool, true, false, List, [], ◌∷◌, ◌++◌, length, take, drop, map, flat_map, filter_map, All, if◌then◌else◌, Option, Some, None, unwrap_or, decimal, count_by, refl, sym, ap, subst, true≢false}
 use Rattle.std.proofs.lemmas.List.Elements.{All-from_recursion}
 use Rattle.std.specs.List.{AllByRecursion, cons_option, join_by}
+use Rattle.std.specs.Str.{byte}
 use Rattle.vfa_ir.specs.declared.syntax.BasicBlock.{BasicBlock}
 use Rattle.vfa_ir.specs.declared.syntax.Instruction.{Instruction}
 use Rattle.vfa_ir.specs.declared.syntax.Parameter.{Parameter}
@@ -19,7 +20,7 @@ use Rattle.vfa_ir.specs.Spelling as spell
 use Rattle.vfa_ir.specs.TokenLexemes.{lexeme_of, lexemes, named, quoted_name, written_name}
 use Rattle.vfa_ir.specs.Words.{is_digits}
 use Rattle.vfa_print.proofs.NamesInOrder.{decimal_digits, kept_are}
-use Rattle.vfa_print.proofs.PrintableParts.{all_back, all_both, all_front}
+use Rattle.vfa_print.proofs.PrintableParts.{all_back, all_both, all_prefix}
 use Rattle.vfa_print.proofs.ResultsInOrder.{kept_in}
 
 abbrev pub IsSome : List ℕ → Type 0
@@ -49,7 +50,7 @@ quoted_some (c ∷ cs) = go (is_digits (c ∷ cs))
 
 written_some : (text : List ℕ) → IfNamed (written_name text)
 written_some [] = tt
-written_some (c ∷ cs) = go (c == 34)
+written_some (c ∷ cs) = go (c == byte "\"")
   where
     go : (b : Bool) → IfNamed (if b then quoted_name (decoded (take (length cs - 1) cs)) else Some (c ∷ cs))
     go true = quoted_some (decoded (take (length cs - 1) cs))
@@ -85,15 +86,15 @@ lexemes_some text (t ∷ ts) = (lexeme_some t.kind _, lexemes_some text ts)
 
 -- A sentence whose lexemes have names
 
-pub words_front : (ws : List (List ℕ)) (rest : List Lexeme) → AllByRecursion HasName (map word ws ++ rest) → AllByRecursion HasName rest
-words_front [] rest h = h
-words_front (w ∷ ws) rest h = words_front ws rest h.1
+pub after_words : (ws : List (List ℕ)) (rest : List Lexeme) → AllByRecursion HasName (map word ws ++ rest) → AllByRecursion HasName rest
+after_words [] rest h = h
+after_words (w ∷ ws) rest h = after_words ws rest h.1
 
 decimal_some : (k : ℕ) → IsSome (decimal k)
 decimal_some k e = true≢false (sym (decimal_digits k) ∙ ap is_digits e)
 
 parameter_some : (k : ℕ) (p : Parameter) → AllByRecursion HasName (spell.parameter p) → IsSome (unwrap_or p.name (decimal k))
-parameter_some k p h = go p.name (words_front p.words (spell.parameter_name p.name) h.1)
+parameter_some k p h = go p.name (after_words p.words (spell.parameter_name p.name) h.1)
   where
     go : (o : Option (List ℕ)) → AllByRecursion HasName (spell.parameter_name o) → IsSome (unwrap_or o (decimal k))
     go None all = decimal_some k
@@ -102,12 +103,12 @@ parameter_some k p h = go p.name (words_front p.words (spell.parameter_name p.na
 further_some : (k : ℕ) (ps : List Parameter) → AllByRecursion HasName (flat_map (λ p. (spell.comma ∷ []) ++ spell.parameter p) ps) → AllByRecursion IsSome (parameter_names k ps)
 further_some k [] h = tt
 further_some k (p ∷ ps) h =
-    (parameter_some k p (all_front HasName (spell.parameter p) _ h.1), further_some (if is_numbered p then k + 1 else k) ps (all_back HasName (spell.parameter p) _ h.1))
+    (parameter_some k p (all_prefix HasName (spell.parameter p) _ h.1), further_some (if is_numbered p then k + 1 else k) ps (all_back HasName (spell.parameter p) _ h.1))
 
 parameters_some : (ps : List Parameter) → AllByRecursion HasName (join_by spell.parameter (spell.comma ∷ []) ps) → AllByRecursion IsSome (parameter_names 0 ps)
 parameters_some [] h = tt
 parameters_some (p ∷ ps) h =
-    (parameter_some 0 p (all_front HasName (spell.parameter p) _ h), further_some (if is_numbered p then 0 + 1 else 0) ps (all_back HasName (spell.parameter p) _ h))
+    (parameter_some 0 p (all_prefix HasName (spell.parameter p) _ h), further_some (if is_numbered p then 0 + 1 else 0) ps (all_back HasName (spell.parameter p) _ h))
 
 phis_some : (ps : List PhiNode) → AllByRecursion HasName (flat_map spell.phi ps) → AllByRecursion IsSome (map (λ (p : PhiNode). p.result) ps)
 phis_some [] h = tt
@@ -118,7 +119,7 @@ insts_some :
     AllByRecursion IsSome (filter_map (λ (i : Instruction). i.result) is)
 insts_some [] h = tt
 insts_some (i ∷ is) h =
-    go i.result (all_front HasName (spell.result i.result) _ (all_front HasName (spell.instruction i) _ h))
+    go i.result (all_prefix HasName (spell.result i.result) _ (all_prefix HasName (spell.instruction i) _ h))
     (insts_some is (all_back HasName (spell.instruction i) _ h))
   where
     go :
@@ -130,18 +131,18 @@ insts_some (i ∷ is) h =
 
 -- the parts of a block
 pub of_phis : (b : BasicBlock) → AllByRecursion HasName (spell.block b) → AllByRecursion HasName (flat_map spell.phi b.phis)
-of_phis b h = all_front HasName (flat_map spell.phi b.phis) _ (all_back HasName (spell.block_label b.label) _ h)
+of_phis b h = all_prefix HasName (flat_map spell.phi b.phis) _ (all_back HasName (spell.block_label b.label) _ h)
 
 pub of_instructions :
     (b : BasicBlock) → AllByRecursion HasName (spell.block b) → AllByRecursion HasName (flat_map spell.instruction b.instructions)
 of_instructions b h =
-    all_front HasName (flat_map spell.instruction b.instructions) _
+    all_prefix HasName (flat_map spell.instruction b.instructions) _
     (all_back HasName (flat_map spell.phi b.phis) _ (all_back HasName (spell.block_label b.label) _ h))
 
 blocks_some : (bs : List BasicBlock) → AllByRecursion HasName (flat_map spell.block bs) → AllByRecursion IsSome (flat_map block_results bs)
 blocks_some [] h = tt
 blocks_some (b ∷ bs) h =
-    let here = all_front HasName (spell.block b) _ h in
+    let here = all_prefix HasName (spell.block b) _ h in
     all_both IsSome (block_results b) (flat_map block_results bs)
     (all_both IsSome (map (λ (p : PhiNode). p.result) b.phis) (filter_map (λ (i : Instruction). i.result) b.instructions)
     (phis_some b.phis (of_phis b here)) (insts_some b.instructions (of_instructions b here)))
@@ -149,7 +150,7 @@ blocks_some (b ∷ bs) h =
 
 labels_some : (s : Sentence) (bs : List BasicBlock) → AllByRecursion HasName (flat_map spell.block bs) → AllByRecursion IsSome (map (block_name s) bs)
 labels_some s [] h = tt
-labels_some s (b ∷ bs) h = (go b.label (all_front HasName (spell.block_label b.label) _ (all_front HasName (spell.block b) _ h)), labels_some s bs (all_back HasName (spell.block b) _ h))
+labels_some s (b ∷ bs) h = (go b.label (all_prefix HasName (spell.block_label b.label) _ (all_prefix HasName (spell.block b) _ h)), labels_some s bs (all_back HasName (spell.block b) _ h))
   where
     go : (o : Option (List ℕ)) → AllByRecursion HasName (spell.block_label o) → IsSome (unwrap_or o (decimal (count_by is_numbered s.parameters)))
     go None all = decimal_some (count_by is_numbered s.parameters)
@@ -165,20 +166,20 @@ kept_some (x ∷ xs) h = go (is_digits x) refl (kept_some xs h.1)
 
 module _ (s : Sentence) (named_all : AllByRecursion HasName (spell.spelling s)) where
   of_header : AllByRecursion HasName (spell.header s)
-  of_header = all_front HasName (spell.header s) _ named_all
+  of_header = all_prefix HasName (spell.header s) _ named_all
 
   pub of_blocks : AllByRecursion HasName (flat_map spell.block s.blocks)
-  of_blocks = all_front HasName (flat_map spell.block s.blocks) _ (all_back HasName s.tail _ (all_back HasName (spell.header s) _ named_all)).1
+  of_blocks = all_prefix HasName (flat_map spell.block s.blocks) _ (all_back HasName s.tail _ (all_back HasName (spell.header s) _ named_all)).1
 
   of_name : AllByRecursion HasName (spell.type s.width ∷ global s.name ∷ spell.open_round ∷ (join_by spell.parameter (spell.comma ∷ []) s.parameters ++ (spell.close_round ∷ [])))
-  of_name = words_front s.lead _ of_header.1
+  of_name = after_words s.lead _ of_header.1
 
   pub name_some : IsSome s.name
   name_some = of_name.1.0
 
   pub values_some : AllByRecursion IsSome (value_names s)
   values_some = all_both IsSome (parameter_names 0 s.parameters) (flat_map block_results s.blocks)
-      (parameters_some s.parameters (all_front HasName (join_by spell.parameter (spell.comma ∷ []) s.parameters) _ of_name.1.1.1))
+      (parameters_some s.parameters (all_prefix HasName (join_by spell.parameter (spell.comma ∷ []) s.parameters) _ of_name.1.1.1))
       (blocks_some s.blocks of_blocks)
 
   pub kept_names_some : (tail : List ℕ) → All IsKeptName (kept_names (function_of s tail))

@@ -149,15 +149,15 @@ earlier_block : (k m : ℕ) (o : Local) → IsEarlier k m o → IsEarlier k (m +
 earlier_block k m (Local.Value w) h = h
 earlier_block k m (Local.Block b) h = omega arith
 
-value_behind : (k m v : ℕ) (before : List Local) → v ≡ k → AllByRecursion (IsEarlier k m) before
+value_after : (k m v : ℕ) (before : List Local) → v ≡ k → AllByRecursion (IsEarlier k m) before
     → AllByRecursion (IsEarlier (k + 1) m) (before ++ Local.Value v ∷ [])
-value_behind k m v [] is earlier = (omega (arith, is), record {})
-value_behind k m v (o ∷ before) is earlier = (earlier_value k m o earlier.0, value_behind k m v before is earlier.1)
+value_after k m v [] is earlier = (omega (arith, is), record {})
+value_after k m v (o ∷ before) is earlier = (earlier_value k m o earlier.0, value_after k m v before is earlier.1)
 
-block_behind : (k m b : ℕ) (before : List Local) → b ≡ m → AllByRecursion (IsEarlier k m) before
+block_after : (k m b : ℕ) (before : List Local) → b ≡ m → AllByRecursion (IsEarlier k m) before
     → AllByRecursion (IsEarlier k (m + 1)) (before ++ Local.Block b ∷ [])
-block_behind k m b [] is earlier = (omega (arith, is), record {})
-block_behind k m b (o ∷ before) is earlier = (earlier_block k m o earlier.0, block_behind k m b before is earlier.1)
+block_after k m b [] is earlier = (omega (arith, is), record {})
+block_after k m b (o ∷ before) is earlier = (earlier_block k m o earlier.0, block_after k m b before is earlier.1)
 
 -- those before it are those before it in text order
 
@@ -227,13 +227,13 @@ numbered f before (Local.Value v ∷ rest) k m scope is earlier values blocks =
     let l = Local.Value v in
     one_named f before rest l scope (number_is f l before rest is (eq-eqb v v refl) (values_differ k m v before values.0 earlier))
     ∙ numbered f (before ++ l ∷ []) rest (k + 1) m (with_name scope l (shown_name f l)) (is ∙ sym (append_assoc before (l ∷ []) rest))
-    (value_behind k m v before values.0 earlier) values.1 blocks
+    (value_after k m v before values.0 earlier) values.1 blocks
     ∙ scope_is _ _ _ (append_assoc scope.values (shown_name f l ∷ []) (map (shown_value_name f) (values_in rest))) refl
 numbered f before (Local.Block b ∷ rest) k m scope is earlier values blocks =
     let l = Local.Block b in
     one_named f before rest l scope (number_is f l before rest is (eq-eqb b b refl) (blocks_differ k m b before blocks.0 earlier))
     ∙ numbered f (before ++ l ∷ []) rest k (m + 1) (with_name scope l (shown_name f l)) (is ∙ sym (append_assoc before (l ∷ []) rest))
-    (block_behind k m b before blocks.0 earlier) values blocks.1
+    (block_after k m b before blocks.0 earlier) values blocks.1
     ∙ scope_is _ _ _ refl (append_assoc scope.blocks (shown_name f l ∷ []) (map (shown_block_name f) (blocks_in rest)))
 
 pub all_named : (f : Function) → IsPrintable f → named_from f 0 (record { values = []; blocks = [] }) (locals_of f) ≡ shown_scope f

@@ -3,6 +3,7 @@ use Rattle.std.proofs.Common.{◌≡◌, ◌∙◌, Option, Some, None, option_a
 use Rattle.std.specs.List.{AllByRecursion}
 use Rattle.std.specs.Str.Parse.{digits_value}
 use Rattle.std.proofs.lemmas.List.Elements.{recursion_from_All}
+use Rattle.std.specs.Str.{byte}
 use Rattle.vfa_ir.specs.declared.functions.CallArg.{CallArg}
 use Rattle.vfa_ir.specs.declared.functions.CallOp.{CallOp}
 use Rattle.vfa_ir.specs.declared.functions.Function.{Function}
@@ -30,12 +31,12 @@ use Rattle.vfa_print.proofs.ShownNames.{HasFewNames, shown_alike}
 -- literals
 number_of_digits : (ds : List ℕ) → is_digits ds ≡ true → number_value ds ≡ pos (digits_value 10 ds)
 number_of_digits [] e = absurd (true≢false (sym e))
-number_of_digits (c ∷ cs) e = by (c == 45) refl
+number_of_digits (c ∷ cs) e = by (c == byte "-") refl
   where
-    by : (b : Bool) → (c == 45) ≡ b → number_value (c ∷ cs) ≡ pos (digits_value 10 (c ∷ cs))
+    by : (b : Bool) → (c == byte "-") ≡ b → number_value (c ∷ cs) ≡ pos (digits_value 10 (c ∷ cs))
     by true m =
         let is : c ≡ 45 = eqb-true c 45 m in
-        let no : is_digits (45 ∷ cs) ≡ true = ap (λ d. is_digits (d ∷ cs)) (sym is) ∙ e in
+        let no : is_digits (byte "-" ∷ cs) ≡ true = ap (λ d. is_digits (d ∷ cs)) (sym is) ∙ e in
         absurd (true≢false (sym no))
     by false m = ap (λ b. if b then neg_ℤ (pos (digits_value 10 cs)) else pos (digits_value 10 (c ∷ cs))) m
 

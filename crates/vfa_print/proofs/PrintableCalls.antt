@@ -21,7 +21,7 @@ use Rattle.vfa_ir.specs.Spelling as spell
 use Rattle.vfa_print.proofs.ShownNames.{one_if}
 use Rattle.vfa_print.proofs.NamesInOrder.{range-append}
 use Rattle.vfa_print.proofs.NamesOfText.{HasName, IsSome, of_instructions}
-use Rattle.vfa_print.proofs.PrintableParts.{AreKnown, all_back, all_both, all_front, operand_is}
+use Rattle.vfa_print.proofs.PrintableParts.{AreKnown, all_back, all_both, all_prefix, operand_is}
 
 -- the callee of a call has a name
 callee_some :
@@ -46,7 +46,7 @@ module _ (f : Function) (scope : Scope) (value_count : length scope.values ≡ l
       AllByRecursion (PrintableArgument f) (map (argument_of scope) args)
   arguments_are [] fits known = tt
   arguments_are (a ∷ args) fits known =
-      (argument_is a fits.0 (all_front _ (value_uses a.value) _ known), arguments_are args fits.1 (all_back _ (value_uses a.value) _ known))
+      (argument_is a fits.0 (all_prefix _ (value_uses a.value) _ known), arguments_are args fits.1 (all_back _ (value_uses a.value) _ known))
 
   call_is :
       (o : Operation) → FitsOperation o → Known (operation_uses o) → AllByRecursion HasName (spell.operation o) →
@@ -76,10 +76,10 @@ module _ (f : Function) (scope : Scope) (value_count : length scope.values ≡ l
       AllByRecursion HasName (flat_map spell.instruction is) → AllByRecursion (PrintableCall f) (instruction_calls scope is)
   insts_calls [] fits known named = tt
   insts_calls (i ∷ is) fits known named =
-      let here : AllByRecursion HasName (spell.instruction i) = all_front HasName (spell.instruction i) _ named in
-      let operation = all_front HasName (spell.operation i.operation) _ (all_back HasName (spell.result i.result) _ here) in
+      let here : AllByRecursion HasName (spell.instruction i) = all_prefix HasName (spell.instruction i) _ named in
+      let operation = all_prefix HasName (spell.operation i.operation) _ (all_back HasName (spell.result i.result) _ here) in
       with_call (call_of scope i.operation)
-      (call_is i.operation fits.0.operation (all_front _ (operation_uses i.operation) _ known) operation)
+      (call_is i.operation fits.0.operation (all_prefix _ (operation_uses i.operation) _ known) operation)
       (insts_calls is fits.1 (all_back _ (operation_uses i.operation) _ known) (all_back HasName (spell.instruction i) _ named))
     where
       with_call :
@@ -94,11 +94,11 @@ module _ (f : Function) (scope : Scope) (value_count : length scope.values ≡ l
       AllByRecursion HasName (flat_map spell.block bs) → AllByRecursion (PrintableCall f) (flat_map (block_calls scope) bs)
   calls_are [] fits known named = tt
   calls_are (b ∷ bs) fits known named =
-      let used = all_back _ (flat_map phi_uses b.phis) _ (all_front _ (block_uses b) _ known) in
+      let used = all_back _ (flat_map phi_uses b.phis) _ (all_prefix _ (block_uses b) _ known) in
       let insts : List Use = flat_map (λ (i : Instruction). operation_uses i.operation) b.instructions in
       all_both (PrintableCall f) (block_calls scope b) (flat_map (block_calls scope) bs)
-      (insts_calls b.instructions (recursion_from_All FitsInstruction b.instructions fits.0.instructions) (all_front _ insts _ used)
-      (of_instructions b (all_front HasName (spell.block b) _ named)))
+      (insts_calls b.instructions (recursion_from_All FitsInstruction b.instructions fits.0.instructions) (all_prefix _ insts _ used)
+      (of_instructions b (all_prefix HasName (spell.block b) _ named)))
       (calls_are bs fits.1 (all_back _ (block_uses b) _ known) (all_back HasName (spell.block b) _ named))
 
 -- an operation is a call where it makes one

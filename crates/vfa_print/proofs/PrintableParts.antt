@@ -40,9 +40,9 @@ all_known values blocks (u ∷ us) h = go (is_known values blocks u) refl h (all
     go true e k again = (e, again k)
     go false e k again = absurd (cc)
 
-pub all_front : {X : Type 0} (P : X → Type 0) (xs ys : List X) → AllByRecursion P (xs ++ ys) → AllByRecursion P xs
-all_front P [] ys h = tt
-all_front P (x ∷ xs) ys h = (h.0, all_front P xs ys h.1)
+pub all_prefix : {X : Type 0} (P : X → Type 0) (xs ys : List X) → AllByRecursion P (xs ++ ys) → AllByRecursion P xs
+all_prefix P [] ys h = tt
+all_prefix P (x ∷ xs) ys h = (h.0, all_prefix P xs ys h.1)
 
 pub all_back : {X : Type 0} (P : X → Type 0) (xs ys : List X) → AllByRecursion P (xs ++ ys) → AllByRecursion P ys
 all_back P [] ys h = h
@@ -128,7 +128,7 @@ module _ (f : Function) (scope : Scope) (as_values : length scope.values ≡ len
   pair_is : (width : ℕ) (a b : Written) → FitsPair width a b → Known (value_uses a ++ value_uses b) → AreOperands f width (operand_of scope width a) (operand_of scope width b)
   pair_is width a b fits known = record {
     of_width = fits.of_width;
-    first = operand_is width a fits.first (all_front _ (value_uses a) (value_uses b) known);
+    first = operand_is width a fits.first (all_prefix _ (value_uses a) (value_uses b) known);
     second = operand_is width b fits.second (all_back _ (value_uses a) (value_uses b) known);
   }
 
@@ -136,7 +136,7 @@ module _ (f : Function) (scope : Scope) (as_values : length scope.values ≡ len
   op_is n (Operation.Binary bin words width a b) fits known = (flags_fit bin words fits.0, pair_is width a b fits.1 known)
   op_is n (Operation.Compare samesign pred width a b) fits known = pair_is width a b fits known
   op_is n (Operation.Select c width a b) fits known =
-      (operand_is 1 c fits.0 (all_front _ (value_uses c) (value_uses a ++ value_uses b) known), pair_is width a b fits.1 (all_back _ (value_uses c) (value_uses a ++ value_uses b) known))
+      (operand_is 1 c fits.0 (all_prefix _ (value_uses c) (value_uses a ++ value_uses b) known), pair_is width a b fits.1 (all_back _ (value_uses c) (value_uses a ++ value_uses b) known))
   op_is n (Operation.Convert cast words from a to) fits known = (cast_flags_fit cast words fits.0, fits.1, operand_is from a fits.2 known, fits.3)
   op_is n (Operation.Freeze width a) fits known = (fits.0, operand_is width a fits.1 known)
   op_is n (Operation.Extract width pair index) fits known = (fits.0, value_is pair known.0, fits.1)
@@ -188,14 +188,14 @@ module _ (f : Function) (scope : Scope) (as_values : length scope.values ≡ len
 
   entry_is : (width : ℕ) (i : Incoming) → FitsValue width i.value → Known (entry_uses i) → Entry width (entry_of width i)
   entry_is width i fits known =
-      (operand_is width i.value fits (all_front _ (value_uses i.value) (of_block i.block ∷ []) known), block_is i.block (all_back _ (value_uses i.value) (of_block i.block ∷ []) known).0)
+      (operand_is width i.value fits (all_prefix _ (value_uses i.value) (of_block i.block ∷ []) known), block_is i.block (all_back _ (value_uses i.value) (of_block i.block ∷ []) known).0)
 
   entries_are :
       (width : ℕ) (entries : List Incoming) → AllByRecursion (λ (i : Incoming). FitsValue width i.value) entries →
       Known (flat_map entry_uses entries) → AllByRecursion (Entry width) (map (entry_of width) entries)
   entries_are width [] fits known = tt
   entries_are width (i ∷ rest) fits known =
-      (entry_is width i fits.0 (all_front _ (entry_uses i) _ known), entries_are width rest fits.1 (all_back _ (entry_uses i) _ known))
+      (entry_is width i fits.0 (all_prefix _ (entry_uses i) _ known), entries_are width rest fits.1 (all_back _ (entry_uses i) _ known))
 
   some_entries : (width : ℕ) (entries : List Incoming) → (entries ≡ [] → ⊥) → map (entry_of width) entries ≡ [] → ⊥
   some_entries width [] some e = some refl
@@ -224,11 +224,11 @@ module _ (f : Function) (scope : Scope) (as_values : length scope.values ≡ len
   term_is (TerminatorKind.Always to) fits known = block_is to known.0
   term_is (TerminatorKind.Condition c taken fallen) fits known =
       let targets = all_back _ (value_uses c) (of_block taken ∷ of_block fallen ∷ []) known in
-      (operand_is 1 c fits (all_front _ (value_uses c) (of_block taken ∷ of_block fallen ∷ []) known), block_is taken targets.0, block_is fallen targets.1.0)
+      (operand_is 1 c fits (all_prefix _ (value_uses c) (of_block taken ∷ of_block fallen ∷ []) known), block_is taken targets.0, block_is fallen targets.1.0)
   term_is (TerminatorKind.Switch width on default cases) fits known =
       let targets = all_back _ (value_uses on) (of_block default ∷ map (λ c. of_block c.block) cases) known in (
         fits.0,
-        operand_is width on fits.1 (all_front _ (value_uses on) (of_block default ∷ map (λ c. of_block c.block) cases) known),
+        operand_is width on fits.1 (all_prefix _ (value_uses on) (of_block default ∷ map (λ c. of_block c.block) cases) known),
         block_is default targets.0,
         All-from_recursion (Case width) (map (λ c. (literal_bits width c.number, block_id scope c.block)) cases)
             (cases_are width cases (recursion_from_All (λ c. FitsLiteral width c.number) cases fits.2) targets.1),
@@ -240,14 +240,14 @@ module _ (f : Function) (scope : Scope) (as_values : length scope.values ≡ len
       (ps : List PhiNode) → AllByRecursion FitsPhi ps → Known (flat_map phi_uses ps) →
       AllByRecursion (PrintablePhi f) (map (phi_of scope) ps)
   phis_are [] fits known = tt
-  phis_are (p ∷ ps) fits known = (phi_is p fits.0 (all_front _ (phi_uses p) _ known), phis_are ps fits.1 (all_back _ (phi_uses p) _ known))
+  phis_are (p ∷ ps) fits known = (phi_is p fits.0 (all_prefix _ (phi_uses p) _ known), phis_are ps fits.1 (all_back _ (phi_uses p) _ known))
 
   insts_are :
       (n : ℕ) (is : List Instruction) → AllByRecursion FitsInstruction is →
       Known (flat_map (λ (i : Instruction). operation_uses i.operation) is) → AllByRecursion (PrintableInst f) (insts_of scope n is)
   insts_are n [] fits known = tt
   insts_are n (i ∷ is) fits known = (
-    inst_is n i fits.0 (all_front _ (operation_uses i.operation) _ known),
+    inst_is n i fits.0 (all_prefix _ (operation_uses i.operation) _ known),
     insts_are (if is_call i then suc n else n) is fits.1 (all_back _ (operation_uses i.operation) _ known),
   )
 
@@ -257,9 +257,9 @@ module _ (f : Function) (scope : Scope) (as_values : length scope.values ≡ len
       let insts : List Use = flat_map (λ (i : Instruction). operation_uses i.operation) b.instructions in
       record {
         phis = All-from_recursion (PrintablePhi f) (map (phi_of scope) b.phis)
-            (phis_are b.phis (recursion_from_All FitsPhi b.phis fits.phis) (all_front _ (flat_map phi_uses b.phis) _ known));
+            (phis_are b.phis (recursion_from_All FitsPhi b.phis fits.phis) (all_prefix _ (flat_map phi_uses b.phis) _ known));
         insts = All-from_recursion (PrintableInst f) (insts_of scope n b.instructions)
-            (insts_are n b.instructions (recursion_from_All FitsInstruction b.instructions fits.instructions) (all_front _ insts _ later));
+            (insts_are n b.instructions (recursion_from_All FitsInstruction b.instructions fits.instructions) (all_prefix _ insts _ later));
         term = term_is b.terminator.kind fits.terminator.kind (all_back _ insts (terminator_uses b.terminator.kind) later);
       }
 
@@ -268,6 +268,6 @@ module _ (f : Function) (scope : Scope) (as_values : length scope.values ≡ len
       AllByRecursion (PrintableBlock f) (blocks_of scope n bs)
   blocks_are n [] fits known = tt
   blocks_are n (b ∷ bs) fits known = (
-    block_of_is n b fits.0 (all_front _ (block_uses b) _ known),
+    block_of_is n b fits.0 (all_prefix _ (block_uses b) _ known),
     blocks_are (n + call_count b) bs fits.1 (all_back _ (block_uses b) _ known),
   )

@@ -35,10 +35,10 @@ drop-map f (suc n) [] = refl
 drop-map f (suc n) (x ∷ xs) = drop-map f n xs
 
 -- the middle of three parts
-middle : {A : Type 0} (front part back all : List A) → front ++ (part ++ back) ≡ all → take (length part) (drop (length front) all) ≡ part
-middle front part back all e =
-    ap (λ l. take (length part) (drop (length front) l)) (sym e)
-    ∙ ap (take (length part)) (drop-append_seam front (part ++ back)) ∙ take-append_seam part back
+middle : {A : Type 0} (prefix part back all : List A) → prefix ++ (part ++ back) ≡ all → take (length part) (drop (length prefix) all) ≡ part
+middle prefix part back all e =
+    ap (λ l. take (length part) (drop (length prefix) l)) (sym e)
+    ∙ ap (take (length part)) (drop-append_seam prefix (part ++ back)) ∙ take-append_seam part back
 
 -- the tokens between the parameters and the body
 abbrev tail_tokens : List ℕ → Sentence → List Token

@@ -13,7 +13,7 @@ use Rattle.vfa_ir.specs.Tokens.{is_blank}
 use Rattle.vfa_print.proofs.Found.{Gives, gives_more, gives_nothing}
 use Rattle.vfa_print.proofs.Lexed.{IsLexed, IsLexedBlock}
 use Rattle.vfa_print.proofs.PrintedLines.{blanks_give, line_gives}
-use Rattle.vfa_print.specs.Layout.{text_line, indented, line_feed, switch_front, terminator_text, label_text, block_text, blocks_text}
+use Rattle.vfa_print.specs.Layout.{text_line, indented, line_feed, switch_head, terminator_text, label_text, block_text, blocks_text}
 
 pub all_split :
     {X : Type 0} (P : X → Type 0) (xs ys : List X) → AllByRecursion P (xs ++ ys) → AllByRecursion P xs × AllByRecursion P ys
@@ -51,24 +51,24 @@ case_gives width c rest lexed = line_gives (codes "    ") (switch_case width c) 
 -- a switch in its parts
 switch_parts :
     (width : ℕ) (on : List Lexeme) (default : List ℕ) (rest : List Lexeme) →
-    switch_front width on default ++ rest ≡ word (codes "switch") ∷ (on ++ (comma ∷ (target default ++ (open_square ∷ rest))))
+    switch_head width on default ++ rest ≡ word (codes "switch") ∷ (on ++ (comma ∷ (target default ++ (open_square ∷ rest))))
 switch_parts width on default rest =
     ap (λ ls. word (codes "switch") ∷ ls) (append_assoc on (comma ∷ (target default ++ (open_square ∷ []))) rest)
 
 switch_gives :
     (width : ℕ) (on : List Lexeme) (default : List ℕ) (cases : List SwitchCase) (rest : List ℕ) →
-    AllByRecursion IsLexed (switch_front width on default ++ (flat_map (switch_case width) cases ++ (close_square ∷ []))) →
+    AllByRecursion IsLexed (switch_head width on default ++ (flat_map (switch_case width) cases ++ (close_square ∷ []))) →
     Gives
-    (indented (switch_front width on default)
+    (indented (switch_head width on default)
     ++ (flat_map (λ c. text_line (codes "    ") (switch_case width c)) cases ++ indented (close_square ∷ [])))
     rest
-    (switch_front width on default ++ (flat_map (switch_case width) cases ++ (close_square ∷ [])))
+    (switch_head width on default ++ (flat_map (switch_case width) cases ++ (close_square ∷ [])))
 switch_gives width on default cases rest lexed =
-    let front : List Lexeme = switch_front width on default in
+    let prefix : List Lexeme = switch_head width on default in
     let inner : List Lexeme = flat_map (switch_case width) cases in
-    let outer : AllByRecursion IsLexed front × AllByRecursion IsLexed (inner ++ (close_square ∷ [])) = all_split IsLexed front _ lexed in
+    let outer : AllByRecursion IsLexed prefix × AllByRecursion IsLexed (inner ++ (close_square ∷ [])) = all_split IsLexed prefix _ lexed in
     let parts : AllByRecursion IsLexed inner × AllByRecursion IsLexed (close_square ∷ []) = all_split IsLexed inner _ outer.1 in
-    gives_more (indented front) _ rest front (inner ++ (close_square ∷ [])) (indented_gives front _ outer.0)
+    gives_more (indented prefix) _ rest prefix (inner ++ (close_square ∷ [])) (indented_gives prefix _ outer.0)
     (gives_more _ (indented (close_square ∷ [])) rest inner (close_square ∷ [])
     (flat_gives (λ c. AllByRecursion IsLexed (switch_case width c)) (λ c. text_line (codes "    ") (switch_case width c))
     (switch_case width) (case_gives width) cases _ (all_flat IsLexed (switch_case width) cases parts.0))

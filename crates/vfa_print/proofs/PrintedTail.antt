@@ -4,17 +4,18 @@ use Rattle.std.proofs.Math.Seq.{drop-append_seam}
 use Rattle.std.proofs.lemmas.List.{length-take, length-drop, take-append-le, drop-append-le}
 use Rattle.std.proofs.lemmas.List.Elements.{recursion_from_All}
 use Rattle.std.specs.List.{AllByRecursion}
+use Rattle.std.specs.Str.{byte}
 use Rattle.vfa_ir.proofs.Reading.{more_of, gap_inside, token_inside, tokens_placed}
 use Rattle.vfa_ir.specs.Grammar.{may_follow_parameters}
 use Rattle.vfa_ir.specs.Lexemes.{Lexeme}
 use Rattle.vfa_ir.specs.Printable.{IsTail}
 use Rattle.vfa_ir.specs.TokenLexemes.{lexeme_of, lexemes, bytes_between, end_of_last}
-use Rattle.vfa_ir.specs.Tokens.{IsPlaced, Piece, gap, token, piece_of, is_blank, line_feed, line_feeds, tokens_behind, tokens_of}
+use Rattle.vfa_ir.specs.Tokens.{IsPlaced, Piece, gap, token, piece_of, is_blank, line_feed, line_feeds, tokens_after, tokens_of}
 use Rattle.vfa_ir.specs.declared.tokens.Token.{Token}
 use Rattle.vfa_ir.specs.declared.tokens.TokenKind.{TokenKind}
 use Rattle.vfa_ir.specs.declared.tokens.TokenKind.TheVariants as Kind
 use Rattle.vfa_print.proofs.Ending.{ends_token, is_firm, piece_stops}
-use Rattle.vfa_print.proofs.Found.{Gives, found, lexemes_found, same_place, slice_behind}
+use Rattle.vfa_print.proofs.Found.{Gives, found, lexemes_found, same_place, slice_after}
 
 -- each piece is decided by these bytes alone, and the last one ends with them
 abbrev pub AreFirm : ℕ → List ℕ → Type 0
@@ -45,37 +46,37 @@ found_on zero (b ∷ bs) rest ends firm =
 
 tokens_on :
     (skip place line : ℕ) (bs rest : List ℕ) → IsTrue (ends_token rest) → AreFirm skip bs →
-    tokens_behind skip place line (bs ++ rest)
-    ≡ tokens_behind skip place line bs ++ tokens_behind 0 (place + length bs) (line + line_feeds bs) rest
+    tokens_after skip place line (bs ++ rest)
+    ≡ tokens_after skip place line bs ++ tokens_after 0 (place + length bs) (line + line_feeds bs) rest
 tokens_on skip place line [] rest ends firm = rw firm (same_place _ _ _ _ rest (omega arith) (omega arith))
 tokens_on (suc skip) place line (b ∷ bs) rest ends firm =
     tokens_on skip (place + 1) (line + line_feed b) bs rest ends firm
-    ∙ ap (λ ts. tokens_behind skip (place + 1) (line + line_feed b) bs ++ ts) (same_place _ _ _ _ rest (omega arith) (omega arith))
+    ∙ ap (λ ts. tokens_after skip (place + 1) (line + line_feed b) bs ++ ts) (same_place _ _ _ _ rest (omega arith) (omega arith))
 tokens_on zero place line (b ∷ bs) rest ends firm =
     let same : piece_of b (bs ++ rest) ≡ piece_of b bs = piece_stops b bs rest ends firm.0 in
     let more : ℕ = more_of (piece_of b bs) in
-    rw (same, tokens_behind)
+    rw (same, tokens_after)
     (by_piece (piece_of b bs)
     (tokens_on more (place + 1) (line + line_feed b) bs rest ends firm.1
-    ∙ ap (λ ts. tokens_behind more (place + 1) (line + line_feed b) bs ++ ts) (same_place _ _ _ _ rest (omega arith) (omega arith))))
+    ∙ ap (λ ts. tokens_after more (place + 1) (line + line_feed b) bs ++ ts) (same_place _ _ _ _ rest (omega arith) (omega arith))))
   where
     by_piece :
         (p : Piece) →
-        tokens_behind (more_of p) (place + 1) (line + line_feed b) (bs ++ rest)
-        ≡ tokens_behind (more_of p) (place + 1) (line + line_feed b) bs
-        ++ tokens_behind 0 (place + length (b ∷ bs)) (line + line_feeds (b ∷ bs)) rest →
+        tokens_after (more_of p) (place + 1) (line + line_feed b) (bs ++ rest)
+        ≡ tokens_after (more_of p) (place + 1) (line + line_feed b) bs
+        ++ tokens_after 0 (place + length (b ∷ bs)) (line + line_feeds (b ∷ bs)) rest →
         (elim p [
-          | gap more ↦ tokens_behind more (place + 1) (line + line_feed b) (bs ++ rest)
+          | gap more ↦ tokens_after more (place + 1) (line + line_feed b) (bs ++ rest)
           | token kind more ↦
               record { kind = kind; start = place; end = place + 1 + more; line = line }
-              ∷ tokens_behind more (place + 1) (line + line_feed b) (bs ++ rest)
+              ∷ tokens_after more (place + 1) (line + line_feed b) (bs ++ rest)
         ])
         ≡ (elim p [
-          | gap more ↦ tokens_behind more (place + 1) (line + line_feed b) bs
+          | gap more ↦ tokens_after more (place + 1) (line + line_feed b) bs
           | token kind more ↦
               record { kind = kind; start = place; end = place + 1 + more; line = line }
-              ∷ tokens_behind more (place + 1) (line + line_feed b) bs
-        ]) ++ tokens_behind 0 (place + length (b ∷ bs)) (line + line_feeds (b ∷ bs)) rest
+              ∷ tokens_after more (place + 1) (line + line_feed b) bs
+        ]) ++ tokens_after 0 (place + length (b ∷ bs)) (line + line_feeds (b ∷ bs)) rest
     by_piece (gap more) left = left
     by_piece (token kind more) left =
         let t : Token = record { kind = kind; start = place; end = place + 1 + more; line = line } in
@@ -89,7 +90,7 @@ end_or place (t ∷ ts) = end_of_last t ts
 abbrev pub MayFollow : Lexeme → Type 0
 MayFollow l = IsTrue (may_follow_parameters l)
 
-no_tokens : (skip place line : ℕ) (bs : List ℕ) → length bs ≤ skip → tokens_behind skip place line bs ≡ []
+no_tokens : (skip place line : ℕ) (bs : List ℕ) → length bs ≤ skip → tokens_after skip place line bs ≡ []
 no_tokens skip place line [] h = refl
 no_tokens zero place line (b ∷ bs) h = absurd (omega arith)
 no_tokens (suc skip) place line (b ∷ bs) h = no_tokens skip (place + 1) (line + line_feed b) bs (omega arith)
@@ -111,39 +112,39 @@ token_firm :
     IsTrue (is_firm b bs (token kind more))
 token_firm b more bs Kind.Other may = cc
 token_firm b more bs Kind.Meta may = cc
-token_firm b more bs Kind.Mark may = not_first (b == 33) (b == 123) (b == 125) may
+token_firm b more bs Kind.Mark may = not_first (b == byte "!") (b == byte "{") (b == byte "}") may
 token_firm b more bs _ may = refl
 
 are_firm :
     (skip place line : ℕ) (bs : List ℕ) → skip ≤ length bs →
-    end_or (place + skip) (tokens_behind skip place line bs) ≡ place + length bs →
+    end_or (place + skip) (tokens_after skip place line bs) ≡ place + length bs →
     AllByRecursion MayFollow (found skip bs) → AreFirm skip bs
 are_firm skip place line [] within whole may = omega arith
 are_firm (suc skip) place line (b ∷ bs) within whole may =
     let at : place + suc skip ≡ place + 1 + skip = omega arith in
     let on : place + suc (length bs) ≡ place + 1 + length bs = omega arith in
     are_firm skip (place + 1) (line + line_feed b) bs (omega arith)
-    (subst (λ p. end_or p (tokens_behind skip (place + 1) (line + line_feed b) bs) ≡ place + 1 + length bs) at (whole ∙ on)) may
+    (subst (λ p. end_or p (tokens_after skip (place + 1) (line + line_feed b) bs) ≡ place + 1 + length bs) at (whole ∙ on)) may
 are_firm zero place line (b ∷ bs) within whole may =
     by_piece (piece_of b bs) refl (λ more. are_firm more (place + 1) (line + line_feed b) bs) whole may
   where
     by_piece :
         (p : Piece) → piece_of b bs ≡ p →
         ((more : ℕ) → more ≤ length bs →
-        end_or (place + 1 + more) (tokens_behind more (place + 1) (line + line_feed b) bs) ≡ place + 1 + length bs →
+        end_or (place + 1 + more) (tokens_after more (place + 1) (line + line_feed b) bs) ≡ place + 1 + length bs →
         AllByRecursion MayFollow (found more bs) → AreFirm more bs) →
         end_or (place + 0)
         (elim p [
-          | gap more ↦ tokens_behind more (place + 1) (line + line_feed b) bs
+          | gap more ↦ tokens_after more (place + 1) (line + line_feed b) bs
           | token kind more ↦
               record { kind = kind; start = place; end = place + 1 + more; line = line }
-              ∷ tokens_behind more (place + 1) (line + line_feed b) bs
+              ∷ tokens_after more (place + 1) (line + line_feed b) bs
         ]) ≡ place + suc (length bs) →
         AllByRecursion MayFollow
         (elim p [ gap more ↦ found more bs | token kind more ↦ lexeme_of kind (b ∷ take more bs) ∷ found more bs ]) →
         IsTrue (is_firm b bs p) × AreFirm (more_of p) bs
     by_piece (gap more) is left whole may =
-        let ts : List Token = tokens_behind more (place + 1) (line + line_feed b) bs in
+        let ts : List Token = tokens_after more (place + 1) (line + line_feed b) bs in
         let within : more ≤ length bs = gap_inside b bs more is in
         let on : place + suc (length bs) ≡ place + 1 + length bs = omega arith in
         let there : end_or (place + 1 + more) ts ≡ place + suc (length bs) = further (place + 0) (place + 1 + more) _ ts whole (omega arith) in
@@ -152,12 +153,12 @@ are_firm zero place line (b ∷ bs) within whole may =
         strict : (t : Bool) → nat_lt more (length bs) ≡ t → (t || is_blank b) ≡ true
         strict true e = refl
         strict false e =
-            let none : tokens_behind more (place + 1) (line + line_feed b) bs ≡ [] = no_tokens more _ _ bs (ltb-false _ _ e) in
+            let none : tokens_after more (place + 1) (line + line_feed b) bs ≡ [] = no_tokens more _ _ bs (ltb-false _ _ e) in
             let stuck : place + 0 ≡ place + suc (length bs) = (rw none at whole) in
             absurd (omega arith)
     by_piece (token kind more) is left whole may =
         let t : Token = record { kind = kind; start = place; end = place + 1 + more; line = line } in
-        let ts : List Token = tokens_behind more (place + 1) (line + line_feed b) bs in
+        let ts : List Token = tokens_after more (place + 1) (line + line_feed b) bs in
         let on : place + suc (length bs) ≡ place + 1 + length bs = omega arith in
         let there : end_or (place + 1 + more) ts ≡ place + suc (length bs) = sym (end_same t ts) ∙ whole in
         (token_firm b more bs kind may.0, left more (token_inside b bs kind more is) (there ∙ on) may.1)
@@ -168,7 +169,7 @@ moved n m t = record { kind = t.kind; start = n + t.start; end = n + t.end; line
 
 tokens_moved :
     (n m skip place line : ℕ) (bs : List ℕ) →
-    tokens_behind skip (n + place) (m + line) bs ≡ map (moved n m) (tokens_behind skip place line bs)
+    tokens_after skip (n + place) (m + line) bs ≡ map (moved n m) (tokens_after skip place line bs)
 tokens_moved n m skip place line [] = refl
 tokens_moved n m (suc skip) place line (b ∷ bs) =
     let at : n + place + 1 ≡ n + (place + 1) = omega arith in
@@ -182,19 +183,19 @@ tokens_moved n m zero place line (b ∷ bs) =
     by_piece :
         (p : Piece) →
         ((more : ℕ) →
-        tokens_behind more (n + place + 1) (m + line + line_feed b) bs
-        ≡ map (moved n m) (tokens_behind more (place + 1) (line + line_feed b) bs)) →
+        tokens_after more (n + place + 1) (m + line + line_feed b) bs
+        ≡ map (moved n m) (tokens_after more (place + 1) (line + line_feed b) bs)) →
         (elim p [
-          | gap more ↦ tokens_behind more (n + place + 1) (m + line + line_feed b) bs
+          | gap more ↦ tokens_after more (n + place + 1) (m + line + line_feed b) bs
           | token kind more ↦
               record { kind = kind; start = n + place; end = n + place + 1 + more; line = m + line }
-              ∷ tokens_behind more (n + place + 1) (m + line + line_feed b) bs
+              ∷ tokens_after more (n + place + 1) (m + line + line_feed b) bs
         ])
         ≡ map (moved n m) (elim p [
-          | gap more ↦ tokens_behind more (place + 1) (line + line_feed b) bs
+          | gap more ↦ tokens_after more (place + 1) (line + line_feed b) bs
           | token kind more ↦
               record { kind = kind; start = place; end = place + 1 + more; line = line }
-              ∷ tokens_behind more (place + 1) (line + line_feed b) bs
+              ∷ tokens_after more (place + 1) (line + line_feed b) bs
         ])
     by_piece (gap more) left = left more
     by_piece (token kind more) left =
@@ -240,7 +241,7 @@ moved_bytes before bs rest m (t ∷ ts) within =
     let here : EndsIn bs t = within.0 in
     let last : end_of_last t ts ≤ length bs = last_within bs t ts here within.1 in
     rw (end_moved (length before) m t ts)
-    (slice_behind before (bs ++ rest) t.start (end_of_last t ts) ∙ part_same bs rest t.start (end_of_last t ts) last (omega arith))
+    (slice_after before (bs ++ rest) t.start (end_of_last t ts) ∙ part_same bs rest t.start (end_of_last t ts) last (omega arith))
 
 -- the last token of a tail ends it
 whole_end : (bs : List ℕ) (ts : List Token) → bytes_between bs ts ≡ bs → AllByRecursion (EndsIn bs) ts → end_or 0 ts ≡ length bs
@@ -265,30 +266,30 @@ tail_found tail rest is ends = found_on 0 tail rest ends (tail_firm tail is) ∙
 -- its tokens in a text, where it stands between these bytes
 pub tail_tokens :
     (before tail rest : List ℕ) (line : ℕ) → IsTail tail → IsTrue (ends_token rest) →
-    tokens_behind 0 (length before) (line + 1) (tail ++ rest)
+    tokens_after 0 (length before) (line + 1) (tail ++ rest)
     ≡ map (moved (length before) line) (tokens_of tail)
-    ++ tokens_behind 0 (length before + length tail) (line + 1 + line_feeds tail) rest
+    ++ tokens_after 0 (length before + length tail) (line + 1 + line_feeds tail) rest
 tail_tokens before tail rest line is ends =
     let here : length before + 0 ≡ length before = omega arith in
-    let same : tokens_behind 0 (length before) (line + 1) tail ≡ map (moved (length before) line) (tokens_of tail) =
+    let same : tokens_after 0 (length before) (line + 1) tail ≡ map (moved (length before) line) (tokens_of tail) =
     (rw here at (tokens_moved (length before) line 0 0 1 tail)) in
     tokens_on 0 (length before) (line + 1) tail rest ends (tail_firm tail is)
-    ∙ ap (λ ts. ts ++ tokens_behind 0 (length before + length tail) (line + 1 + line_feeds tail) rest) same
+    ∙ ap (λ ts. ts ++ tokens_after 0 (length before + length tail) (line + 1 + line_feeds tail) rest) same
 
 tokens_count :
-    (skip place line : ℕ) (bs : List ℕ) → length (tokens_behind skip place line bs) ≡ length (found skip bs)
+    (skip place line : ℕ) (bs : List ℕ) → length (tokens_after skip place line bs) ≡ length (found skip bs)
 tokens_count skip place line [] = refl
 tokens_count (suc skip) place line (b ∷ bs) = tokens_count skip (place + 1) (line + line_feed b) bs
 tokens_count zero place line (b ∷ bs) =
     by_piece (piece_of b bs) (λ more. tokens_count more (place + 1) (line + line_feed b) bs)
   where
     by_piece :
-        (p : Piece) → ((more : ℕ) → length (tokens_behind more (place + 1) (line + line_feed b) bs) ≡ length (found more bs)) →
+        (p : Piece) → ((more : ℕ) → length (tokens_after more (place + 1) (line + line_feed b) bs) ≡ length (found more bs)) →
         length {A = Token} (elim p [
-          | gap more ↦ tokens_behind more (place + 1) (line + line_feed b) bs
+          | gap more ↦ tokens_after more (place + 1) (line + line_feed b) bs
           | token kind more ↦
               record { kind = kind; start = place; end = place + 1 + more; line = line }
-              ∷ tokens_behind more (place + 1) (line + line_feed b) bs
+              ∷ tokens_after more (place + 1) (line + line_feed b) bs
         ])
         ≡ length {A = Lexeme} (elim p [ gap more ↦ found more bs | token kind more ↦ lexeme_of kind (b ∷ take more bs) ∷ found more bs ])
     by_piece (gap more) left = left more
@@ -298,15 +299,15 @@ pub tail_gives :
     (tail rest : List ℕ) → IsTail tail → IsTrue (ends_token rest) → Gives tail rest (lexemes tail (tokens_of tail))
 tail_gives tail rest is ends = record {
   found = tail_found tail rest is ends;
-  behind = λ place line. behind place line;
+  after = λ place line. after place line;
 }
   where
-    behind :
+    after :
         (place line : ℕ) →
-        drop (length (lexemes tail (tokens_of tail))) (tokens_behind 0 place line (tail ++ rest))
-        ≡ tokens_behind 0 (place + length tail) (line + line_feeds tail) rest
-    behind place line =
-        let many : length (lexemes tail (tokens_of tail)) ≡ length (tokens_behind 0 place line tail) =
+        drop (length (lexemes tail (tokens_of tail))) (tokens_after 0 place line (tail ++ rest))
+        ≡ tokens_after 0 (place + length tail) (line + line_feeds tail) rest
+    after place line =
+        let many : length (lexemes tail (tokens_of tail)) ≡ length (tokens_after 0 place line tail) =
         ap length (lexemes_found tail) ∙ sym (tokens_count 0 place line tail) in
         rw (many, tokens_on 0 place line tail rest ends (tail_firm tail is))
-        (drop-append_seam (tokens_behind 0 place line tail) (tokens_behind 0 (place + length tail) (line + line_feeds tail) rest))
+        (drop-append_seam (tokens_after 0 place line tail) (tokens_after 0 (place + length tail) (line + line_feeds tail) rest))

@@ -4,13 +4,14 @@ use Rattle.std.proofs.Math.Seq.{take-append_seam}
 use Rattle.std.proofs.lemmas.List.{append-nil, length-map}
 use Rattle.std.proofs.lemmas.List.Elements.{recursion_from_All}
 use Rattle.std.specs.List.{AllByRecursion}
+use Rattle.std.specs.Str.{byte}
 use Rattle.vfa_ir.specs.Lexemes.{Lexeme, mark}
 use Rattle.vfa_ir.specs.Printable.{IsTail}
 use Rattle.vfa_ir.specs.Reads.{tail_bytes}
 use Rattle.vfa_ir.specs.Sentence.{Sentence}
 use Rattle.vfa_ir.specs.Spelling.{open_brace, close_brace, block, header, spelling}
 use Rattle.vfa_ir.specs.TokenLexemes.{lexemes, bytes_between}
-use Rattle.vfa_ir.specs.Tokens.{is_blank, is_bracket, is_digit, is_letter, is_run_byte, line_feeds, tokens_behind, tokens_of}
+use Rattle.vfa_ir.specs.Tokens.{is_blank, is_bracket, is_run_byte, line_feeds, tokens_after, tokens_of}
 use Rattle.vfa_print.proofs.Ending.{ends_token}
 use Rattle.vfa_print.proofs.Found.{Gives, found, gives_more, gives_nothing, lexemes_found, same_place}
 use Rattle.vfa_print.proofs.Lexed.{IsLexed, IsLexedBlock, IsLexedTree}
@@ -32,27 +33,27 @@ unfolding is_blank is_bracket
 body_gives s lexed =
     let blocks : AllByRecursion IsLexedBlock s.blocks = recursion_from_All IsLexedBlock s.blocks lexed.blocks in
     let inner : List Lexeme = flat_map block s.blocks in
-    gives_more (32 ∷ []) _ [] [] (open_brace ∷ (inner ++ (close_brace ∷ []))) (blanks_give (32 ∷ []) _ refl)
-    (gives_more (123 ∷ []) _ [] (open_brace ∷ []) (inner ++ (close_brace ∷ [])) (brace_gives 123 _ refl)
+    gives_more (byte " " ∷ []) _ [] [] (open_brace ∷ (inner ++ (close_brace ∷ []))) (blanks_give (byte " " ∷ []) _ refl)
+    (gives_more (byte "{" ∷ []) _ [] (open_brace ∷ []) (inner ++ (close_brace ∷ [])) (brace_gives (byte "{") _ refl)
     (gives_more line_feed _ [] [] (inner ++ (close_brace ∷ [])) (blanks_give line_feed _ refl)
     (gives_more (blocks_text s.blocks) (codes "}") [] inner (close_brace ∷ []) (blocks_give s.blocks _ blocks)
-    (brace_gives 125 [] refl))))
+    (brace_gives (byte "}") [] refl))))
 
 body_ends : (s : Sentence) (rest : List ℕ) → IsTrue (ends_token (body_text s ++ rest))
-unfolding is_run_byte is_letter is_digit
+unfolding is_run_byte
 body_ends s rest = refl
 
-behind_ends : (s : Sentence) (tail rest : List ℕ) → IsTrue (ends_token (tail_text tail ++ (body_text s ++ rest)))
-unfolding is_run_byte is_letter is_digit
-behind_ends s [] rest = refl
-behind_ends s (b ∷ tail) rest = refl
+after_header_ends : (s : Sentence) (tail rest : List ℕ) → IsTrue (ends_token (tail_text tail ++ (body_text s ++ rest)))
+unfolding is_run_byte
+after_header_ends s [] rest = refl
+after_header_ends s (b ∷ tail) rest = refl
 
 tail_text_gives :
     (tail rest : List ℕ) → IsTail tail → IsTrue (ends_token rest) → Gives (tail_text tail) rest (lexemes tail (tokens_of tail))
 unfolding is_blank
 tail_text_gives [] rest is ends = gives_nothing rest
 tail_text_gives (b ∷ tail) rest is ends =
-    gives_more (32 ∷ []) (b ∷ tail) rest [] _ (blanks_give (32 ∷ []) _ refl) (tail_gives (b ∷ tail) rest is ends)
+    gives_more (byte " " ∷ []) (b ∷ tail) rest [] _ (blanks_give (byte " " ∷ []) _ refl) (tail_gives (b ∷ tail) rest is ends)
 
 sentence_gives :
     (s : Sentence) (tail : List ℕ) → IsLexedTree s → IsTail tail →
@@ -60,11 +61,11 @@ sentence_gives :
     (header s ++ (lexemes tail (tokens_of tail) ++ (open_brace ∷ (flat_map block s.blocks ++ (close_brace ∷ [])))))
 sentence_gives s tail lexed is =
     let body : List Lexeme = open_brace ∷ (flat_map block s.blocks ++ (close_brace ∷ [])) in
-    let front : AllByRecursion IsLexed (header s) = recursion_from_All IsLexed (header s) lexed.header in
+    let prefix : AllByRecursion IsLexed (header s) = recursion_from_All IsLexed (header s) lexed.header in
     let ends : IsTrue (ends_token ((tail_text tail ++ body_text s) ++ [])) =
-    subst (λ bs. IsTrue (ends_token bs)) (sym (append_assoc (tail_text tail) (body_text s) [])) (behind_ends s tail []) in
+    subst (λ bs. IsTrue (ends_token bs)) (sym (append_assoc (tail_text tail) (body_text s) [])) (after_header_ends s tail []) in
     gives_more (written false (header s)) (tail_text tail ++ body_text s) [] (header s) (lexemes tail (tokens_of tail) ++ body)
-    (written_gives false (header s) _ front ends)
+    (written_gives false (header s) _ prefix ends)
     (gives_more (tail_text tail) (body_text s) [] (lexemes tail (tokens_of tail)) body
     (tail_text_gives tail _ is (body_ends s [])) (body_gives s lexed))
 
@@ -88,33 +89,33 @@ tail_between :
 tail_between before tail rest ls g is ends =
     let n : ℕ = length before in
     let m : ℕ = line_feeds before in
-    let there : tokens_behind 0 (0 + n) (1 + m) (tail ++ rest) ≡ tokens_behind 0 n (m + 1) (tail ++ rest) =
+    let there : tokens_after 0 (0 + n) (1 + m) (tail ++ rest) ≡ tokens_after 0 n (m + 1) (tail ++ rest) =
     same_place _ _ _ _ _ (omega arith) (omega arith) in
     let many : length (tokens_of tail) ≡ length (map (moved n m) (tokens_of tail)) = sym (length-map (tokens_of tail) (moved n m)) in
     rw (
-      g.behind 0 1,
+      g.after 0 1,
       there,
       tail_tokens before tail rest m is ends,
       many,
-      take-append_seam (map (moved n m) (tokens_of tail)) (tokens_behind 0 (n + length tail) (m + 1 + line_feeds tail) rest),
+      take-append_seam (map (moved n m) (tokens_of tail)) (tokens_after 0 (n + length tail) (m + 1 + line_feeds tail) rest),
     )
     (moved_bytes before tail rest m (tokens_of tail) (tokens_within tail) ∙ is.whole)
 
 some_tail :
     (s : Sentence) (tail : List ℕ) → IsLexedTree s → IsTail tail → s.tail ≡ lexemes tail (tokens_of tail) →
-    (let text : List ℕ = written false (header s) ++ (32 ∷ (tail ++ body_text s)) in
+    (let text : List ℕ = written false (header s) ++ (byte " " ∷ (tail ++ body_text s)) in
     tail_bytes text (tokens_of text) s ≡ tail)
-unfolding is_blank is_run_byte is_letter is_digit
+unfolding is_blank is_run_byte
 some_tail s tail lexed is same =
-    let front : AllByRecursion IsLexed (header s) = recursion_from_All IsLexed (header s) lexed.header in
-    let before : List ℕ = written false (header s) ++ (32 ∷ []) in
+    let prefix : AllByRecursion IsLexed (header s) = recursion_from_All IsLexed (header s) lexed.header in
+    let before : List ℕ = written false (header s) ++ (byte " " ∷ []) in
     let rest : List ℕ = tail ++ body_text s in
     let g : Gives before rest (header s) =
     subst (λ ls. Gives before rest ls) (append-nil (header s))
-    (gives_more (written false (header s)) (32 ∷ []) rest (header s) []
-    (written_gives false (header s) (32 ∷ rest) front refl) (blanks_give (32 ∷ []) rest refl)) in
+    (gives_more (written false (header s)) (byte " " ∷ []) rest (header s) []
+    (written_gives false (header s) (byte " " ∷ rest) prefix refl) (blanks_give (byte " " ∷ []) rest refl)) in
     let many : length s.tail ≡ length (tokens_of tail) = ap length same ∙ length-map (tokens_of tail) _ in
-    subst (λ text. tail_bytes text (tokens_of text) s ≡ tail) (append_assoc (written false (header s)) (32 ∷ []) rest)
+    subst (λ text. tail_bytes text (tokens_of text) s ≡ tail) (append_assoc (written false (header s)) (byte " " ∷ []) rest)
     (rw many (tail_between before tail (body_text s) (header s) g is refl))
 
 pub printed_tail :

@@ -2,23 +2,24 @@
 use Rattle.std.proofs.Common.{◌≡◌, ℕ, ◌+◌, ◌*◌, ◌/◌, ◌%◌, ◌<◌, ◌==◌, nat_lt, Bool, true, false, not, cond, List, [], ◌∷◌, ◌++◌, flat_map, refl, ap, ◌∙◌, arith}
 use Rattle.std.proofs.lemmas.Bool.Decides.{nat_tests}
 use Rattle.std.proofs.lemmas.List.Folds.{list_all-append}
+use Rattle.std.specs.Char.{is_ascii_hexdigit}
 use Rattle.std.specs.List.{list_all}
-use Rattle.vfa_ir.specs.Names.{decoded, is_hex_digit, hex_value}
-use Rattle.vfa_ir.specs.Tokens.{is_digit}
+use Rattle.std.specs.Str.{byte}
+use Rattle.vfa_ir.specs.Names.{decoded, hex_value}
 use Rattle.vfa_print.specs.Layout.{hex_digit, is_escaped, byte_text}
 
 -- a byte that closes no string
 abbrev pub no_quote : ℕ → Bool
-no_quote b = not (b == 34)
+no_quote b = not (b == byte "\"")
 
 record IsHexDigit (n c : ℕ) : Type 0 where
-  hex : is_hex_digit c ≡ true
+  hex : is_ascii_hexdigit c ≡ true
   value : hex_value c ≡ n
   no_quote : no_quote c ≡ true
-  no_slash : (c == 92) ≡ false
+  no_slash : (c == byte "\\") ≡ false
 
 hex_small : (n : ℕ) → nat_lt n 10 ≡ true → IsHexDigit n (48 + n)
-unfolding is_hex_digit hex_value is_digit
+unfolding hex_value
 hex_small n h = record {
   hex = grind (arith, nat_tests);
   value = grind (arith, nat_tests);
@@ -27,7 +28,7 @@ hex_small n h = record {
 }
 
 hex_large : (n : ℕ) → n < 16 → nat_lt n 10 ≡ false → IsHexDigit n (55 + n)
-unfolding is_hex_digit hex_value is_digit
+unfolding hex_value
 hex_large n small h = record {
   hex = grind (arith, nat_tests);
   value = grind (arith, nat_tests);
@@ -46,18 +47,18 @@ escaped_byte : (b : ℕ) → is_escaped b ≡ true → b < 256
 unfolding is_escaped
 escaped_byte b h = grind (arith, nat_tests)
 
-plain_byte : (b : ℕ) → is_escaped b ≡ false → ((b == 92) ≡ false) × (no_quote b ≡ true)
+plain_byte : (b : ℕ) → is_escaped b ≡ false → ((b == byte "\\") ≡ false) × (no_quote b ≡ true)
 unfolding is_escaped
 plain_byte b h = (grind (arith, nat_tests), grind (arith, nat_tests))
 
-decoded_plain : (b : ℕ) (rest : List ℕ) → (b == 92) ≡ false → decoded (b ∷ rest) ≡ b ∷ decoded rest
+decoded_plain : (b : ℕ) (rest : List ℕ) → (b == byte "\\") ≡ false → decoded (b ∷ rest) ≡ b ∷ decoded rest
 decoded_plain b [] h = refl
 decoded_plain b (c ∷ []) h = rw h refl
 decoded_plain b (c ∷ d ∷ rest) h = rw h refl
 
 decoded_hex :
     (m n c d : ℕ) (rest : List ℕ) → IsHexDigit m c → IsHexDigit n d →
-    decoded (92 ∷ c ∷ d ∷ rest) ≡ (16 * m + n) ∷ decoded rest
+    decoded (byte "\\" ∷ c ∷ d ∷ rest) ≡ (16 * m + n) ∷ decoded rest
 decoded_hex m n c d rest first second =
     rw (first.no_slash, first.hex, second.hex, first.value, second.value) refl
 
@@ -66,7 +67,7 @@ decoded_byte b rest = by_test (is_escaped b) refl
   where
     by_test :
         (t : Bool) → is_escaped b ≡ t →
-        decoded (cond t (92 ∷ hex_digit (b / 16) ∷ hex_digit (b % 16) ∷ []) (b ∷ []) ++ rest) ≡ b ∷ decoded rest
+        decoded (cond t (byte "\\" ∷ hex_digit (b / 16) ∷ hex_digit (b % 16) ∷ []) (b ∷ []) ++ rest) ≡ b ∷ decoded rest
     by_test true h =
         let small : b < 256 = escaped_byte b h in
         let whole : 16 * (b / 16) + b % 16 ≡ b = omega arith in
@@ -83,7 +84,7 @@ byte_unquoted b = by_test (is_escaped b) refl
   where
     by_test :
         (t : Bool) → is_escaped b ≡ t →
-        list_all no_quote (cond t (92 ∷ hex_digit (b / 16) ∷ hex_digit (b % 16) ∷ []) (b ∷ [])) ≡ true
+        list_all no_quote (cond t (byte "\\" ∷ hex_digit (b / 16) ∷ hex_digit (b % 16) ∷ []) (b ∷ [])) ≡ true
     by_test true h =
         let small : b < 256 = escaped_byte b h in
         let first : IsHexDigit (b / 16) (hex_digit (b / 16)) = is_hex _ (omega arith) in

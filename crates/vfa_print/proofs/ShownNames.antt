@@ -16,7 +16,8 @@ use Rattle.vfa_ir.specs.DefinedNames.{kept_name}
 use Rattle.vfa_ir.specs.Printable.{IsKeptName, IsPrintable, block_ids, ids_of, inst_ids, kept_names}
 use Rattle.vfa_ir.specs.Shown.{is_unnamed, locals_of, locals_of_block, locals_of_blocks, name_of, number_of, param_locals, phi_locals, results_of, same_local, shown_name}
 use Rattle.vfa_ir.specs.Words.{is_among, is_digits}
-use Rattle.vfa_print.proofs.NameNumbers.{decimal_is_digits, decimal_same, same_itself, same_text}
+use Rattle.vfa_print.proofs.DistinctNames.{same_itself, same_text}
+use Rattle.vfa_print.proofs.NameNumbers.{decimal_is_digits, decimal_same, or_true}
 
 -- fewer values and blocks than there are decimals
 abbrev pub HasFewNames : Function → Type 0
@@ -136,10 +137,6 @@ among_blocks (Local.Block c ∷ ls) b = ap (λ t. nat_eq c b || t) (among_blocks
 nat_itself : (n : ℕ) → nat_eq n n ≡ true
 nat_itself n = grind arith
 
-or_true : (a b : Bool) → b ≡ true → (a || b) ≡ true
-or_true true b e = refl
-or_true false b e = e
-
 in_range : (a n k : ℕ) → k < n → list_any (λ i. nat_eq i (a + k)) (range_with_len a n) ≡ true
 in_range a zero k h = absurd (omega arith)
 in_range a (suc n) zero h =
@@ -244,13 +241,13 @@ no_repeat name (y ∷ names) h = ap (λ b. b || is_among name names) h.0 ∙ no_
 distinct_parts : (xs ys : List (List ℕ)) → IsDistinct bytes_eq (xs ++ ys) → IsDistinct bytes_eq xs × IsDistinct bytes_eq ys
 unfolding IsDistinct
 distinct_parts [] ys h = (tt, h)
-distinct_parts (x ∷ xs) ys h = let p = distinct_parts xs ys h.1 in ((front xs h.0, p.0), p.1)
+distinct_parts (x ∷ xs) ys h = let p = distinct_parts xs ys h.1 in ((prefix xs h.0, p.0), p.1)
   where
-    front :
+    prefix :
         (zs : List (List ℕ)) → AllByRecursion (λ y. bytes_eq x y ≡ false) (zs ++ ys) →
         AllByRecursion (λ y. bytes_eq x y ≡ false) zs
-    front [] h = tt
-    front (z ∷ zs) h = (h.0, front zs h.1)
+    prefix [] h = tt
+    prefix (z ∷ zs) h = (h.0, prefix zs h.1)
 
 -- no name is in both of two parts
 in_one_part :

@@ -1,14 +1,14 @@
 -- Decimals, and signed decimals of the range of their width.
-use Rattle.std.proofs.Common.{◌≡◌, ◌∙◌, ℕ, zero, suc, ◌-◌, ◌*◌, ◌/◌, ◌%◌, ◌<◌, ◌≤◌, ◌^◌, Bool, true, false, ◌||◌, ◌==◌, nat_lt, nat_le, cond, List, [], ◌∷◌, pos, neg_ℤ, ◌≤ℤ◌, ◌<ℤ◌, decimal, refl, sym, ap, subst, arith, ne_eqb, eqb-true, ltb-false, pow_pos, pow_mono}
+use Rattle.std.proofs.Common.{◌≡◌, ◌∙◌, ℕ, zero, suc, ◌-◌, ◌*◌, ◌/◌, ◌%◌, ◌<◌, ◌≤◌, ◌^◌, Bool, true, false, ◌||◌, ◌==◌, nat_lt, cond, List, [], ◌∷◌, pos, neg_ℤ, ◌≤ℤ◌, ◌<ℤ◌, decimal, refl, sym, ap, subst, arith, ne_eqb, eqb-true, ltb-false, pow_pos, pow_mono, le-leb}
 use Rattle.std.specs.Fmt.{digits, digits_onto, digit_glyph}
 use Rattle.std.specs.List.{list_all}
 use Rattle.std.specs.Char.{is_ascii_digit, digit_value}
 use Rattle.std.specs.Str.Parse.{digits_value, AllDigits, IsNumeral}
 use Rattle.std.proofs.Math.Nat.{pow-suc}
 use Rattle.std.proofs.lemmas.Int.{ints}
-use Rattle.std.proofs.lemmas.Bool.Decides.{nat_tests}
 use Rattle.std.proofs.lemmas.Fmt.{decimal_is_IsNumeral_wide}
 use Rattle.std.proofs.lemmas.Str.Parse.{digit_from_value}
+use Rattle.std.specs.Str.{byte}
 use Rattle.vfa_ir.specs.declared.syntax.Literal.{Literal}
 use Rattle.vfa_ir.specs.Grammar.{IsWidth, IsNumberOf, IsInRange, FitsLiteral, number_value}
 use Rattle.vfa_ir.specs.Words.{is_digits, is_number}
@@ -32,11 +32,8 @@ decimal_some n e =
     some_either (n / 10 == 0) last [] _ (onto_some 63 10 false (n / 10) last []) e
 
 -- digits
-le_true : (a b : ℕ) → a ≤ b → nat_le a b ≡ true
-le_true a b h = grind (arith, nat_tests)
-
 digit_is : (c : ℕ) → digit_value c < 10 → is_ascii_digit c ≡ true
-digit_is c h = let r = digit_from_value c h in let a = le_true 48 c r.0 in let b = le_true c 57 r.1 in rw (a, b) refl
+digit_is c h = let r = digit_from_value c h in let a = le-leb 48 c r.0 in let b = le-leb c 57 r.1 in rw (a, b) refl
 
 pub all_digits : (ds : List ℕ) → AllDigits 10 ds → list_all is_ascii_digit ds ≡ true
 all_digits [] d = refl
@@ -76,7 +73,7 @@ plain_high v m h = omega (arith, ints)
 plain_value : (ds : List ℕ) → IsNumeral 10 ds → number_value ds ≡ pos (digits_value 10 ds)
 plain_value [] d = refl
 plain_value (c ∷ cs) d =
-    let no_minus : (c == 45) ≡ false = ne_eqb c 45 (λ e. omega (arith, digit_from_value c d.1.0)) in
+    let no_minus : (c == byte "-") ≡ false = ne_eqb c 45 (λ e. omega (arith, digit_from_value c d.1.0)) in
     rw no_minus refl
 
 plain_fits : (width n : ℕ) → n < 10 ^ 64 → n < 2 ^ width → IsNumberOf width (decimal n)
@@ -86,12 +83,12 @@ plain_fits width n small h =
     let value : number_value (decimal n) ≡ pos n = plain_value (decimal n) d.0 ∙ ap pos d.1 in
     record { digits = decimal_number n small; in_range = subst (IsInRange width) (sym value) is_range }
 
-minus_fits : (width n : ℕ) → n < 10 ^ 64 → n ≤ 2 ^ (width - 1) → IsNumberOf width (45 ∷ decimal n)
+minus_fits : (width n : ℕ) → n < 10 ^ 64 → n ≤ 2 ^ (width - 1) → IsNumberOf width (byte "-" ∷ decimal n)
 minus_fits width n small h =
     let d = decimal_is_IsNumeral_wide n small in
     let is_range : IsInRange width (neg_ℤ (pos n)) =
     record { least = minus_low n (2 ^ (width - 1)) h; most = minus_high n (2 ^ width) (pow_pos width) } in
-    let value : number_value (45 ∷ decimal n) ≡ neg_ℤ (pos n) = ap (λ v. neg_ℤ (pos v)) d.1 in
+    let value : number_value (byte "-" ∷ decimal n) ≡ neg_ℤ (pos n) = ap (λ v. neg_ℤ (pos v)) d.1 in
     record { digits = decimal_digits n small; in_range = subst (IsInRange width) (sym value) is_range }
 
 power_small : (width : ℕ) → IsWidth width → 2 ^ width < 10 ^ 64
@@ -112,7 +109,7 @@ signed_fits width bits w h = go (nat_lt bits (2 ^ (width - 1))) refl
 
     go :
         (t : Bool) → nat_lt bits (2 ^ (width - 1)) ≡ t →
-        IsNumberOf width (cond t (decimal bits) (45 ∷ decimal (2 ^ width - bits)))
+        IsNumberOf width (cond t (decimal bits) (byte "-" ∷ decimal (2 ^ width - bits)))
     go true e = let s = small in plain_fits width bits (omega arith) h
     go false e =
         let s = small in

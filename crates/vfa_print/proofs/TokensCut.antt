@@ -5,25 +5,25 @@ use Rattle.std.proofs.lemmas.List.{drop-drop, length-take, drop-append-le, take-
 use Rattle.std.specs.List.{AllByRecursion}
 use Rattle.vfa_ir.proofs.Reading.{more_of, first_placed, token_step, tokens_placed, tokens_rest}
 use Rattle.vfa_ir.specs.TokenLexemes.{bytes_between, end_of_last, lexeme_of, lexemes, token_lexeme}
-use Rattle.vfa_ir.specs.Tokens.{IsPlaced, Piece, gap, token, piece_of, first, line_behind, line_feed, line_feeds, text_of, tokens_behind, tokens_from, tokens_of}
+use Rattle.vfa_ir.specs.Tokens.{IsPlaced, Piece, gap, token, piece_of, first, line_after, line_feed, line_feeds, text_of, tokens_after, tokens_from, tokens_of}
 use Rattle.vfa_ir.specs.declared.tokens.Token.{Token}
 use Rattle.vfa_print.proofs.PiecesCut.{piece_cut}
 
 abbrev read_on : ℕ → ℕ → ℕ → List ℕ → Piece → List Token
-read_on b place line bs (gap more) = tokens_behind more (place + 1) (line + line_feed b) bs
+read_on b place line bs (gap more) = tokens_after more (place + 1) (line + line_feed b) bs
 read_on b place line bs (token kind more) =
-    record { kind = kind; start = place; end = place + 1 + more; line = line } ∷ tokens_behind more (place + 1) (line + line_feed b) bs
+    record { kind = kind; start = place; end = place + 1 + more; line = line } ∷ tokens_after more (place + 1) (line + line_feed b) bs
 
 -- the first token ends after what is passed over
-first_behind : (skip place line : ℕ) (bs : List ℕ) (t : Token) → first (tokens_behind skip place line bs) ≡ Some t → place + skip < t.end
-first_behind skip place line [] t h = absurd (cc)
-first_behind (suc skip) place line (b ∷ bs) t h =
-    let later = first_behind skip (place + 1) (line + line_feed b) bs t h in omega arith
-first_behind zero place line (b ∷ bs) t h = go (piece_of b bs) h (λ more. first_behind more (place + 1) (line + line_feed b) bs t)
+first_ends_later : (skip place line : ℕ) (bs : List ℕ) (t : Token) → first (tokens_after skip place line bs) ≡ Some t → place + skip < t.end
+first_ends_later skip place line [] t h = absurd (cc)
+first_ends_later (suc skip) place line (b ∷ bs) t h =
+    let later = first_ends_later skip (place + 1) (line + line_feed b) bs t h in omega arith
+first_ends_later zero place line (b ∷ bs) t h = go (piece_of b bs) h (λ more. first_ends_later more (place + 1) (line + line_feed b) bs t)
   where
     go :
         (p : Piece) → first (read_on b place line bs p) ≡ Some t →
-        ((more : ℕ) → first (tokens_behind more (place + 1) (line + line_feed b) bs) ≡ Some t → place + 1 + more < t.end) → place + 0 < t.end
+        ((more : ℕ) → first (tokens_after more (place + 1) (line + line_feed b) bs) ≡ Some t → place + 1 + more < t.end) → place + 0 < t.end
     go (gap more) k again = let later = again more k in omega arith
     go (token kind more) k again =
         let here : Token = record { kind = kind; start = place; end = place + 1 + more; line = line } in
@@ -33,28 +33,28 @@ first_behind zero place line (b ∷ bs) t h = go (piece_of b bs) h (λ more. fir
 
 -- it is the same where the bytes after it are cut off
 first_cut :
-    (skip place line : ℕ) (front back : List ℕ) (t : Token) → first (tokens_behind skip place line (front ++ back)) ≡ Some t →
-    t.end ≤ place + length front → first (tokens_behind skip place line front) ≡ Some t
-first_cut skip place line [] back t h within = let past = first_behind skip place line back t h in absurd (omega arith)
-first_cut (suc skip) place line (b ∷ front) back t h within = first_cut skip (place + 1) (line + line_feed b) front back t h (omega arith)
-first_cut zero place line (b ∷ front) back t h within =
-    go (piece_of b (front ++ back)) refl h (λ more k. first_cut more (place + 1) (line + line_feed b) front back t k (omega arith))
+    (skip place line : ℕ) (prefix back : List ℕ) (t : Token) → first (tokens_after skip place line (prefix ++ back)) ≡ Some t →
+    t.end ≤ place + length prefix → first (tokens_after skip place line prefix) ≡ Some t
+first_cut skip place line [] back t h within = let past = first_ends_later skip place line back t h in absurd (omega arith)
+first_cut (suc skip) place line (b ∷ prefix) back t h within = first_cut skip (place + 1) (line + line_feed b) prefix back t h (omega arith)
+first_cut zero place line (b ∷ prefix) back t h within =
+    go (piece_of b (prefix ++ back)) refl h (λ more k. first_cut more (place + 1) (line + line_feed b) prefix back t k (omega arith))
   where
-    cut : (p : Piece) → piece_of b (front ++ back) ≡ p → more_of p ≤ length front → piece_of b front ≡ p
-    cut p e small = piece_cut b front back (subst (λ q. more_of q ≤ length front) (sym e) small) ∙ e
+    cut : (p : Piece) → piece_of b (prefix ++ back) ≡ p → more_of p ≤ length prefix → piece_of b prefix ≡ p
+    cut p e small = piece_cut b prefix back (subst (λ q. more_of q ≤ length prefix) (sym e) small) ∙ e
 
     go :
-        (p : Piece) → piece_of b (front ++ back) ≡ p → first (read_on b place line (front ++ back) p) ≡ Some t →
-        ((more : ℕ) → first (tokens_behind more (place + 1) (line + line_feed b) (front ++ back)) ≡ Some t → first (tokens_behind more (place + 1) (line + line_feed b) front) ≡ Some t) →
-        first (read_on b place line front (piece_of b front)) ≡ Some t
+        (p : Piece) → piece_of b (prefix ++ back) ≡ p → first (read_on b place line (prefix ++ back) p) ≡ Some t →
+        ((more : ℕ) → first (tokens_after more (place + 1) (line + line_feed b) (prefix ++ back)) ≡ Some t → first (tokens_after more (place + 1) (line + line_feed b) prefix) ≡ Some t) →
+        first (read_on b place line prefix (piece_of b prefix)) ≡ Some t
     go (gap more) e k again =
-        let past = first_behind more (place + 1) (line + line_feed b) (front ++ back) t k in
-        ap (λ q. first (read_on b place line front q)) (cut (gap more) e (omega arith)) ∙ again more k
+        let past = first_ends_later more (place + 1) (line + line_feed b) (prefix ++ back) t k in
+        ap (λ q. first (read_on b place line prefix q)) (cut (gap more) e (omega arith)) ∙ again more k
     go (token kind more) e k again =
         let here : Token = record { kind = kind; start = place; end = place + 1 + more; line = line } in
         let same : here ≡ t = (cc) in
         let end : place + 1 + more ≡ t.end = ap (λ u. u.end) same in
-        ap (λ q. first (read_on b place line front q)) (cut (token kind more) e (omega arith)) ∙ ap Some same
+        ap (λ q. first (read_on b place line prefix q)) (cut (token kind more) e (omega arith)) ∙ ap Some same
 
 -- bytes that are cut off
 cut_length : (bytes : List ℕ) (e : ℕ) → e ≤ length bytes → length (take e bytes) ≡ e
@@ -84,7 +84,7 @@ first_cut_from bytes from line e t h inside within found =
     let long = cut_length bytes e inside in
     let left = length-drop from (take e bytes) in
     first_cut 0 from line (drop from (take e bytes)) (drop e bytes) t
-    (ap (λ bs. first (tokens_behind 0 from line bs)) (sym (cut_parts bytes from e h inside)) ∙ found) (omega arith)
+    (ap (λ bs. first (tokens_after 0 from line bs)) (sym (cut_parts bytes from e h inside)) ∙ found) (omega arith)
 
 -- where the last of some tokens ends
 abbrev pub end_or : ℕ → List Token → ℕ
@@ -95,10 +95,10 @@ pub end_or_last : (u : Token) (us : List Token) → end_or u.end us ≡ end_of_l
 end_or_last u [] = refl
 end_or_last u (v ∷ us) = end_or_last v us
 
-rest_is : (bytes : List ℕ) (from line : ℕ) (u : Token) (us : List Token) → from ≤ length bytes → tokens_from bytes from line ≡ u ∷ us → tokens_from bytes u.end (line_behind bytes u) ≡ us
+rest_is : (bytes : List ℕ) (from line : ℕ) (u : Token) (us : List Token) → from ≤ length bytes → tokens_from bytes from line ≡ u ∷ us → tokens_from bytes u.end (line_after bytes u) ≡ us
 rest_is bytes from line u us inside e =
-    let rest : tokens_from bytes from line ≡ u ∷ tokens_from bytes u.end (line_behind bytes u) = tokens_rest bytes from line u inside (ap first e) in
-    let both : (u ∷ tokens_from bytes u.end (line_behind bytes u)) ≡ (u ∷ us) = sym rest ∙ e in
+    let rest : tokens_from bytes from line ≡ u ∷ tokens_from bytes u.end (line_after bytes u) = tokens_rest bytes from line u inside (ap first e) in
+    let both : (u ∷ tokens_from bytes u.end (line_after bytes u)) ≡ (u ∷ us) = sym rest ∙ e in
     cc
 
 ends_later :
@@ -108,9 +108,9 @@ ends_later bytes from line [] vs inside e = (omega arith, inside)
 ends_later bytes from line (u ∷ us) vs inside e =
     let placed = first_placed bytes from line u inside (ap first e) in
     let within : u.end ≤ length bytes = placed.within in
-    let behind : from ≤ u.start = placed.behind in
+    let after : from ≤ u.start = placed.after in
     let some : u.start < u.end = placed.some in
-    let again = ends_later bytes u.end (line_behind bytes u) us vs within (rest_is bytes from line u (us ++ vs) inside e) in
+    let again = ends_later bytes u.end (line_after bytes u) us vs within (rest_is bytes from line u (us ++ vs) inside e) in
     let first_part = again.0 in
     (omega arith, again.1)
 
@@ -120,27 +120,27 @@ tokens_cut :
 tokens_cut bytes from line e [] vs inside h last =
     let long = cut_length bytes e (omega arith) in
     let none : drop from (take e bytes) ≡ [] = drop_all from (take e bytes) (omega arith) in
-    ap (tokens_behind 0 from line) none
+    ap (tokens_after 0 from line) none
 tokens_cut bytes from line e (u ∷ us) vs inside h last =
     let placed = first_placed bytes from line u inside (ap first h) in
     let within : u.end ≤ length bytes = placed.within in
-    let behind : from ≤ u.start = placed.behind in
+    let after : from ≤ u.start = placed.after in
     let some : u.start < u.end = placed.some in
     let rest = rest_is bytes from line u (us ++ vs) inside h in
-    let later = ends_later bytes u.end (line_behind bytes u) us vs within rest in
+    let later = ends_later bytes u.end (line_after bytes u) us vs within rest in
     let low : u.end ≤ end_or u.end us = later.0 in
     let high : end_or u.end us ≤ length bytes = later.1 in
     let long = cut_length bytes e (omega arith) in
     let found = first_cut_from bytes from line e u (omega arith) (omega arith) (omega arith) (ap first h) in
-    let same : line_behind (take e bytes) u ≡ line_behind bytes u = ap (λ bs. u.line + line_feeds bs) (range_cut bytes u.start u.end e (omega arith) (omega arith) (omega arith)) in
-    let again : tokens_from (take e bytes) u.end (line_behind bytes u) ≡ us = tokens_cut bytes u.end (line_behind bytes u) e us vs within rest last in
+    let same : line_after (take e bytes) u ≡ line_after bytes u = ap (λ bs. u.line + line_feeds bs) (range_cut bytes u.start u.end e (omega arith) (omega arith) (omega arith)) in
+    let again : tokens_from (take e bytes) u.end (line_after bytes u) ≡ us = tokens_cut bytes u.end (line_after bytes u) e us vs within rest last in
     tokens_rest (take e bytes) from line u (omega arith) found ∙ ap (λ ts. u ∷ ts) (ap (tokens_from (take e bytes) u.end) same ∙ again)
 
 -- tokens of bytes that stand elsewhere
 abbrev pub moved : ℕ → ℕ → Token → Token
 moved d c t = record { kind = t.kind; start = t.start + d; end = t.end + d; line = t.line + c }
 
-moved_tokens : (skip place line d c : ℕ) (bs : List ℕ) → tokens_behind skip (place + d) (line + c) bs ≡ map (moved d c) (tokens_behind skip place line bs)
+moved_tokens : (skip place line d c : ℕ) (bs : List ℕ) → tokens_after skip (place + d) (line + c) bs ≡ map (moved d c) (tokens_after skip place line bs)
 moved_tokens skip place line d c [] = refl
 moved_tokens (suc skip) place line d c (b ∷ bs) =
     let at : place + d + 1 ≡ place + 1 + d = omega arith in
@@ -149,7 +149,7 @@ moved_tokens (suc skip) place line d c (b ∷ bs) =
 moved_tokens zero place line d c (b ∷ bs) = go (piece_of b bs) (λ more. moved_tokens more (place + 1) (line + line_feed b) d c bs)
   where
     go :
-        (p : Piece) → ((more : ℕ) → tokens_behind more (place + 1 + d) (line + line_feed b + c) bs ≡ map (moved d c) (tokens_behind more (place + 1) (line + line_feed b) bs)) →
+        (p : Piece) → ((more : ℕ) → tokens_after more (place + 1 + d) (line + line_feed b + c) bs ≡ map (moved d c) (tokens_after more (place + 1) (line + line_feed b) bs)) →
         read_on b (place + d) (line + c) bs p ≡ map (moved d c) (read_on b place line bs p)
     go (gap more) again =
         let at : place + d + 1 ≡ place + 1 + d = omega arith in
@@ -229,7 +229,7 @@ alone_at text s e c u us h inside begins ends on found =
     let long : length tail ≡ e - s = length-drop s (take e text) ∙ ap (λ n. n - s) (cut_length text e inside) in
     let zero_place : 0 + s ≡ s = omega arith in
     let same : map (moved s c) (tokens_of tail) ≡ u ∷ us =
-    sym (moved_tokens 0 0 1 s c tail) ∙ ap (λ n. tokens_behind 0 n (1 + c) tail) zero_place ∙ ap (λ n. tokens_behind 0 s n tail) (sym on) ∙ found in
+    sym (moved_tokens 0 0 1 s c tail) ∙ ap (λ n. tokens_after 0 n (1 + c) tail) zero_place ∙ ap (λ n. tokens_after 0 s n tail) (sym on) ∙ found in
     let read : lexemes tail (tokens_of tail) ≡ lexemes text (u ∷ us) =
     moved_lexemes text s e c (tokens_of tail) h inside (tokens_placed tail 0 1 (omega arith)) ∙ ap (lexemes text) same in
     let whole : bytes_between tail (tokens_of tail) ≡ tail = moved_whole tail s e c u us (tokens_of tail) same begins ends long in
@@ -243,11 +243,11 @@ pub read_alone :
 read_alone text from line [] vs inside some e = record { same = refl; whole = refl }
 read_alone text from line (u ∷ us) vs inside some e =
     let placed = first_placed text from line u inside (ap first e) in
-    let behind : from ≤ u.start = placed.behind in
+    let after : from ≤ u.start = placed.after in
     let bytes : u.start < u.end = placed.some in
     let within : u.end ≤ length text = placed.within in
     let lines : u.line ≡ line + line_feeds (take (u.start - from) (drop from text)) = placed.lines in
-    let later = ends_later text u.end (line_behind text u) us vs within (rest_is text from line u (us ++ vs) inside e) in
+    let later = ends_later text u.end (line_after text u) us vs within (rest_is text from line u (us ++ vs) inside e) in
     let last : ℕ = end_or u.end us in
     let low : u.end ≤ last = later.0 in
     let high : last ≤ length text = later.1 in
@@ -264,17 +264,17 @@ pub record GoesOn (text : List ℕ) (ts : List Token) : Type 0 where
   pub some : 1 ≤ line
   pub is : tokens_from text from line ≡ ts
 
-behind_one : (text : List ℕ) (t : Token) (ts : List Token) → GoesOn text (t ∷ ts) → GoesOn text ts
-behind_one text t ts g =
+goes_on_after : (text : List ℕ) (t : Token) (ts : List Token) → GoesOn text (t ∷ ts) → GoesOn text ts
+goes_on_after text t ts g =
     let placed = first_placed text g.from g.line t g.inside (ap first g.is) in
     let lines : t.line ≡ g.line + line_feeds (take (t.start - g.from) (drop g.from text)) = placed.lines in
     let some : 1 ≤ g.line = g.some in
-    record { from = t.end; line = line_behind text t; inside = placed.within; some = omega arith; is = rest_is text g.from g.line t ts g.inside g.is }
+    record { from = t.end; line = line_after text t; inside = placed.within; some = omega arith; is = rest_is text g.from g.line t ts g.inside g.is }
 
 pub goes_on : (text : List ℕ) (n : ℕ) (ts : List Token) → GoesOn text ts → GoesOn text (drop n ts)
 goes_on text zero ts g = g
 goes_on text (suc n) [] g = g
-goes_on text (suc n) (t ∷ ts) g = goes_on text n ts (behind_one text t ts g)
+goes_on text (suc n) (t ∷ ts) g = goes_on text n ts (goes_on_after text t ts g)
 
 pub read_part : (text : List ℕ) (k n : ℕ) → IsReadAlone text (take n (drop k (tokens_of text)))
 read_part text k n =

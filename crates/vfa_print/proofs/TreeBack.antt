@@ -44,14 +44,14 @@ params_back scope values place (suc n) (p ∷ ps) rest e =
     let at : place ≡ p.value.0 = sym here in
     λ i. record { value = record { 0 = at i }; words = p.words } ∷ more i
 
--- the front of a range is a range
-front_of_range : (a n : ℕ) (xs rest : List ℕ) → xs ++ rest ≡ range_with_len a n → xs ≡ range_with_len a (length xs)
-front_of_range a n [] rest e = refl
-front_of_range a zero (x ∷ xs) rest e = cc
-front_of_range a (suc n) (x ∷ xs) rest e =
+-- the prefix of a range is a range
+prefix_of_range : (a n : ℕ) (xs rest : List ℕ) → xs ++ rest ≡ range_with_len a n → xs ≡ range_with_len a (length xs)
+prefix_of_range a n [] rest e = refl
+prefix_of_range a zero (x ∷ xs) rest e = cc
+prefix_of_range a (suc n) (x ∷ xs) rest e =
     let here : x ≡ a = cc in
     let left : xs ++ rest ≡ range_with_len (a + 1) n = cc in
-    ap₂ (λ x xs. x ∷ xs) here (front_of_range (a + 1) n xs rest left)
+    ap₂ (λ x xs. x ∷ xs) here (prefix_of_range (a + 1) n xs rest left)
 
 same_values : (xs ys : List Value) → map (λ v. v.name) xs ≡ map (λ v. v.name) ys → map (λ v. v.ty) xs ≡ map (λ v. v.ty) ys → xs ≡ ys
 same_values [] [] names types = refl
@@ -212,7 +212,7 @@ module _ (f : Function) (printable : IsPrintable f) (few : HasFewNames f) where
   -- the parameters are the first values
   parameter_range : map (λ p. p.value.0) f.params ≡ range_with_len 0 (length f.params)
   parameter_range =
-      front_of_range 0 (length f.values) (map (λ p. p.value.0) f.params) (flat_map block_ids f.blocks) printable.ids
+      prefix_of_range 0 (length f.values) (map (λ p. p.value.0) f.params) (flat_map block_ids f.blocks) printable.ids
       ∙ ap (range_with_len 0) (length-map (λ p. p.value.0) f.params)
     where
       length-map : {X Y : Type 0} (g : X → Y) (xs : List X) → length (map g xs) ≡ length xs
@@ -224,8 +224,8 @@ module _ (f : Function) (printable : IsPrintable f) (few : HasFewNames f) where
       let params = map (λ p. p.value.0) f.params in
       let results = flat_map block_ids f.blocks in
       let all = sym (length-append params results) ∙ ap length printable.ids ∙ length-range_with_len 0 (length f.values) in
-      let front = ap length parameter_range ∙ length-range_with_len 0 (length f.params) in
-      omega (arith, all, front)
+      let prefix = ap length parameter_range ∙ length-range_with_len 0 (length f.params) in
+      omega (arith, all, prefix)
 
   value_name_back : (v : ℕ) → kept_name (shown_value_name f v) ≡ option_and_then (λ x. x.name) (slice_get f.values v)
   value_name_back v = kept_shown f printable (Local.Value v)

@@ -25,10 +25,7 @@ use Rattle.vfa_print.proofs.NameNumbers.{among-range, name_at-range}
 use Rattle.vfa_print.proofs.EachElement.{each_at}
 use Rattle.vfa_print.proofs.NamesInScope.{each_call}
 use Rattle.vfa_print.proofs.TreeNames.{tree_blocks, tree_values}
-
-pub all_both : {X : Type 0} (P : X → Type 0) (xs ys : List X) → AllByRecursion P xs → AllByRecursion P ys → AllByRecursion P (xs ++ ys)
-all_both P [] ys h k = k
-all_both P (x ∷ xs) ys h k = (h.0, all_both P xs ys h.1 k)
+use Rattle.vfa_print.proofs.PrintableParts.{all_both}
 
 all_flat : {X Y : Type 0} (P : Y → Type 0) (g : X → List Y) (xs : List X) → AllByRecursion (λ x. AllByRecursion P (g x)) xs → AllByRecursion P (flat_map g xs)
 all_flat P g [] h = tt

@@ -1,6 +1,7 @@
 -- How a function is laid out: the text of each token, and the lines on which the tokens of each production stand
 -- (LLVM Language Reference, "Identifiers", "Functions" and "Instruction Reference").
 use Rattle.std.specs.Prelude.{ℕ, ◌+◌, ◌-◌, ◌/◌, ◌%◌, ◌==◌, ◌&&◌, ◌||◌, Bool, true, false, not, nat_lt, List, [], ◌∷◌, ◌++◌, flat_map, if◌then◌else◌, Option, Some, None, codes}
+use Rattle.std.specs.Char.{is_ascii_digit}
 use Rattle.std.specs.List.{list_all}
 use Rattle.std.specs.Str.{byte}
 use Rattle.vfa_ir.specs.declared.syntax.BasicBlock.{BasicBlock}
@@ -8,17 +9,17 @@ use Rattle.vfa_ir.specs.declared.syntax.TerminatorKind.{TerminatorKind}
 use Rattle.vfa_ir.specs.Lexemes.{Lexeme, local, global, label, nameless_local, nameless_global, nameless_label, metadata, group, number, word, string, mark, other}
 use Rattle.vfa_ir.specs.Sentence.{Sentence}
 use Rattle.vfa_ir.specs.Spelling.{open_square, close_square, comma, typed, target, switch_case, terminator_kind, phi, instruction, header}
-use Rattle.vfa_ir.specs.Tokens.{is_digit, is_run_byte}
+use Rattle.vfa_ir.specs.Tokens.{is_run_byte}
 
 -- Names
 
 -- A name stands as it is where it is a run that begins with no digit, or digits alone.
 abbrev pub begins_with_digit : List ℕ → Bool
 begins_with_digit [] = false
-begins_with_digit (b ∷ _) = is_digit b
+begins_with_digit (b ∷ _) = is_ascii_digit b
 
 abbrev pub is_plain : List ℕ → Bool
-is_plain name = list_all is_run_byte name && (not (begins_with_digit name) || list_all is_digit name)
+is_plain name = list_all is_run_byte name && (not (begins_with_digit name) || list_all is_ascii_digit name)
 
 -- In quotes, the quote, the backslash and bytes outside 32 to 126 are `\` and two hexadecimal digits.
 abbrev pub hex_digit : ℕ → ℕ
@@ -57,23 +58,23 @@ abbrev pub takes_blank_before : Lexeme → Bool
 takes_blank_before (mark c) = not (c == byte "(" || c == byte ")" || c == byte ",")
 takes_blank_before _ = true
 
-abbrev pub takes_blank_behind : Lexeme → Bool
-takes_blank_behind (mark c) = not (c == byte "(")
-takes_blank_behind _ = true
+abbrev pub takes_blank_after : Lexeme → Bool
+takes_blank_after (mark c) = not (c == byte "(")
+takes_blank_after _ = true
 
 abbrev pub blank_between : Bool → Bool → List ℕ
-blank_between behind before = if behind && before then codes " " else []
+blank_between after before = if after && before then codes " " else []
 
 -- tokens on one line, after a token that takes a blank after it, or not
 abbrev pub written : Bool → List Lexeme → List ℕ
-written behind [] = []
-written behind (l ∷ rest) =
-    blank_between behind (takes_blank_before l) ++ (lexeme_text l ++ written (takes_blank_behind l) rest)
+written after [] = []
+written after (l ∷ rest) =
+    blank_between after (takes_blank_before l) ++ (lexeme_text l ++ written (takes_blank_after l) rest)
 
 -- whether what follows these tokens takes a blank
-abbrev pub blank_behind : Bool → List Lexeme → Bool
-blank_behind behind [] = behind
-blank_behind behind (l ∷ rest) = blank_behind (takes_blank_behind l) rest
+abbrev pub blank_due_after : Bool → List Lexeme → Bool
+blank_due_after after [] = after
+blank_due_after after (l ∷ rest) = blank_due_after (takes_blank_after l) rest
 
 -- Lines
 
@@ -88,13 +89,13 @@ abbrev pub indented : List Lexeme → List ℕ
 indented = text_line (codes "  ")
 
 -- the first line of a switch, up to the bracket before its cases
-abbrev pub switch_front : ℕ → List Lexeme → List ℕ → List Lexeme
-switch_front width on default = word (codes "switch") ∷ (on ++ (comma ∷ (target default ++ (open_square ∷ []))))
+abbrev pub switch_head : ℕ → List Lexeme → List ℕ → List Lexeme
+switch_head width on default = word (codes "switch") ∷ (on ++ (comma ∷ (target default ++ (open_square ∷ []))))
 
 -- Blocks. A switch has each case on a line of its own.
 abbrev pub terminator_text : TerminatorKind → List ℕ
 terminator_text (TerminatorKind.Switch width on default cases) =
-    indented (switch_front width (typed width on) default)
+    indented (switch_head width (typed width on) default)
     ++ (flat_map (λ c. text_line (codes "    ") (switch_case width c)) cases ++ indented (close_square ∷ []))
 terminator_text t = indented (terminator_kind t)
 

@@ -50,7 +50,7 @@ fn push_next(
 ) -> Result<(), AllocError>
     ensures { IfOk result (λ _. w.new.text ≡ w.old.text ++ (line_feed ++ block_text (block_tree names.now calls.now place block.now))) }
 {
-    w.bytes(b"\n")?;
+    w.line_feed()?;
     push_block(w, names, calls, place, block)
 }
 

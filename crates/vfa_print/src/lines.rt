@@ -111,7 +111,7 @@ fn push_phi_line(w: &mut Writer, names: &ShownNames, phi: &Phi) -> Result<(), Al
 {
     w.bytes(b"  ")?;
     push_phi(w, names, phi)?;
-    w.bytes(b"\n")
+    w.line_feed()
 }
 
 fn push_inst_line(
@@ -124,7 +124,7 @@ fn push_inst_line(
 {
     w.bytes(b"  ")?;
     push_inst(w, names, calls, inst)?;
-    w.bytes(b"\n")
+    w.line_feed()
 }
 
 /// The phis of a block.

@@ -6,13 +6,13 @@ ghost use Rattle.vfa_ir.specs.Tokens as tokens;
 ghost use Rattle.vfa_print.specs.Layout.{begins_with_digit as begins, byte_text, hex_digit as digit_of, is_escaped as escaped, is_plain as plain, name_text};
 
 use std::alloc::AllocError;
-use vfa_ir::{is_digit, is_run_byte};
+use vfa_ir::{all_digits, is_run_byte};
 
 fn begins_with_digit(name: &[u8]) -> bool
     ensures { result ≡ begins name.now }
 {
     match name.first() {
-        Some(b) => is_digit(*b),
+        Some(b) => b.is_ascii_digit(),
         None => false,
     }
 }
@@ -23,17 +23,11 @@ fn are_run_bytes(name: &[u8]) -> bool
     name.iter().all(|b| is_run_byte(*b))
 }
 
-fn are_digits(name: &[u8]) -> bool
-    ensures { result ≡ list_all tokens.is_digit name.now }
-{
-    name.iter().all(|b| is_digit(*b))
-}
-
 /// Whether a name stands as it is.
 fn is_plain(name: &[u8]) -> bool
     ensures { result ≡ plain name.now }
 {
-    are_run_bytes(name) && (!begins_with_digit(name) || are_digits(name))
+    are_run_bytes(name) && (!begins_with_digit(name) || all_digits(name))
 }
 
 #[tactic(auto, unfolding(crate::specs::Layout::is_escaped))]

@@ -1,6 +1,6 @@
 //! The names that the values and the blocks of a function are shown by.
 
-ghost use Rattle.std.specs.Prelude.{◌≡◌, ◌<◌, ◌-◌, ◌^◌, [], None, Some, MatchOption, decimal, IfOk};
+ghost use Rattle.std.specs.Prelude.{◌≡◌, ◌<◌, ◌-◌, ◌^◌, [], None, Some, MatchOption, IfOk};
 ghost use Rattle.vfa_ir.specs.declared.numbering.Local.{Local as LocalOf};
 ghost use Rattle.vfa_ir.specs.Printable.{IsPrintable};
 ghost use Rattle.vfa_ir.specs.Resolution.{Scope};
@@ -73,12 +73,6 @@ impl ShownNames {
     }
 }
 
-fn digits(alloc: Global, n: usize) -> Result<Name, AllocError>
-    ensures { IfOk result (λ name. name ≡ decimal n) }
-{
-    Ok(Name(format!(in alloc; "{n}")?.into_bytes()))
-}
-
 fn value_name(f: &Function, v: usize) -> Option<&Name>
     ensures { MatchOption result (shown_name_of f.now (LocalOf.Value v) ≡ None) (λ name. shown_name_of f.now (LocalOf.Value v) ≡ Some name.now) }
 {
@@ -125,7 +119,7 @@ fn push_local(
             Ok(number)
         }
         None => {
-            names.push(local, digits(alloc, number)?)?;
+            names.push(local, Name::decimal(alloc, number)?)?;
             Ok(number + 1)
         }
     }

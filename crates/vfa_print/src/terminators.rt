@@ -4,7 +4,7 @@ ghost use Rattle.std.specs.Prelude.{◌≡◌, ◌++◌, ℕ, codes, flat_map, m
 ghost use Rattle.vfa_ir.specs.declared.functions.Term.{Term as TermOf};
 ghost use Rattle.vfa_ir.specs.declared.operations.BlockId.{BlockId as BlockIdOf};
 ghost use Rattle.vfa_ir.specs.Spelling.{switch_case as case_tokens, typed as typed_tokens};
-ghost use Rattle.vfa_print.specs.Layout.{indented, switch_front as first_tokens, text_line, terminator_text};
+ghost use Rattle.vfa_print.specs.Layout.{indented, switch_head as first_tokens, text_line, terminator_text};
 ghost use Rattle.vfa_print.specs.Trees.{block_name_at, case_tree, operand_tree, term_tree};
 ghost use Rattle.vfa_print.specs.Writing.{with_tokens};
 
@@ -20,7 +20,7 @@ fn push_return(w: &mut Writer, names: &ShownNames, width: u32, a: Operand) -> Re
     w.bytes(b"  ")?;
     w.word(b"ret")?;
     push_typed(w, names, width, a)?;
-    w.bytes(b"\n")
+    w.line_feed()
 }
 
 fn push_branch(w: &mut Writer, names: &ShownNames, to: BlockId) -> Result<(), AllocError>
@@ -29,7 +29,7 @@ fn push_branch(w: &mut Writer, names: &ShownNames, to: BlockId) -> Result<(), Al
     w.bytes(b"  ")?;
     w.word(b"br")?;
     push_target(w, names, to)?;
-    w.bytes(b"\n")
+    w.line_feed()
 }
 
 fn push_condition(
@@ -48,7 +48,7 @@ fn push_condition(
     push_target(w, names, yes)?;
     w.mark(b',')?;
     push_target(w, names, no)?;
-    w.bytes(b"\n")
+    w.line_feed()
 }
 
 /// The first line of a switch, up to the bracket before its cases.
@@ -97,7 +97,7 @@ fn push_case_line(
 {
     w.bytes(b"    ")?;
     push_case(w, names, width, number, to)?;
-    w.bytes(b"\n")
+    w.line_feed()
 }
 
 fn push_cases(
@@ -127,7 +127,7 @@ fn push_first_line(
 {
     w.bytes(b"  ")?;
     push_first(w, names, width, on, other)?;
-    w.bytes(b"\n")
+    w.line_feed()
 }
 
 fn push_switch(

@@ -5,7 +5,7 @@ ghost use Rattle.vfa_ir.specs.Lexemes.{local as local_lexeme, global as global_l
 ghost use Rattle.vfa_ir.specs.Spelling.{type as type_lexeme};
 ghost use Rattle.vfa_ir.specs.Words.{callee as callee_name};
 ghost use Rattle.vfa_print.specs.Trees.{signed_text};
-ghost use Rattle.vfa_print.specs.Layout.{blank_between, text_line};
+ghost use Rattle.vfa_print.specs.Layout.{blank_between, line_feed, text_line};
 ghost use Rattle.vfa_print.specs.Writing.{Draft, with_token, with_tokens, with_bytes};
 
 use crate::names::push_name;
@@ -19,25 +19,25 @@ use vfa_ir::{Name, push_decimal};
 pub struct Writer {
     alloc: Global,
     text: Vec<u8>,
-    behind: bool,
+    blank_due: bool,
 }
 
 impl Model for Writer {
     ghost Value = { Draft };
 
-    ghost view = { λ w. record { text = w.text.items; behind = w.behind } };
+    ghost view = { λ w. record { text = w.text.items; blank_due = w.blank_due } };
 }
 
 #[tactic(auto, unfolding(crate::specs::Writing::with_token))]
 impl Writer {
     /// No bytes yet.
     pub fn new(alloc: Global) -> Writer
-        ensures { result ≡ record { text = []; behind = false } }
+        ensures { result ≡ record { text = []; blank_due = false } }
     {
         Writer {
             alloc,
             text: Vec::new(alloc),
-            behind: false,
+            blank_due: false,
         }
     }
 
@@ -52,18 +52,25 @@ impl Writer {
     pub fn bytes(&mut self, bytes: &[u8]) -> Result<(), AllocError>
         ensures { IfOk result (λ _. self.new ≡ with_bytes self.old bytes.now) }
     {
-        self.behind = false;
+        self.blank_due = false;
         self.text.extend_from_slice(bytes)
+    }
+
+    /// The end of a line.
+    pub fn line_feed(&mut self) -> Result<(), AllocError>
+        ensures { IfOk result (λ _. self.new ≡ with_bytes self.old line_feed) }
+    {
+        self.bytes(b"\n")
     }
 
     /// The blank before a token that takes one, if one is due.
     fn blank(&mut self) -> Result<(), AllocError>
-        ensures { IfOk result (λ _. self.new ≡ record { text = self.old.text ++ blank_between self.old.behind true; behind = true }) }
+        ensures { IfOk result (λ _. self.new ≡ record { text = self.old.text ++ blank_between self.old.blank_due true; blank_due = true }) }
     {
-        if self.behind {
+        if self.blank_due {
             self.text.push(b' ')?;
         }
-        self.behind = true;
+        self.blank_due = true;
         Ok(())
     }
 
@@ -141,10 +148,10 @@ impl Writer {
     pub fn mark(&mut self, c: u8) -> Result<(), AllocError>
         ensures { IfOk result (λ _. self.new ≡ with_token self.old (mark_lexeme c)) }
     {
-        if self.behind && c != b'(' && c != b')' && c != b',' {
+        if self.blank_due && c != b'(' && c != b')' && c != b',' {
             self.text.push(b' ')?;
         }
-        self.behind = c != b'(';
+        self.blank_due = c != b'(';
         self.text.push(c)?;
         Ok(())
     }

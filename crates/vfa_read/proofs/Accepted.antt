@@ -14,7 +14,7 @@ use Rattle.vfa_ir.specs.TextLines.{block_lines}
 use Rattle.vfa_ir.specs.TokenLexemes.{bytes_between, lexemes}
 use Rattle.vfa_read.specs.declared.sentences.FunctionTree.{FunctionTree}
 use Rattle.vfa_read.specs.Resolving.{tree, IsDuplicate, IsUnknown}
-use Rattle.vfa_read.specs.Trees.{HasItsLines, IsTree, between, sentence_of}
+use Rattle.vfa_read.specs.Trees.{HasItsLines, IsTree, between, tree_sentence}
 
 -- what is known of the function of parts of a tree
 abbrev Parts : ℕ → List ℕ → List Lexeme → List ℕ → Function → List (List ℕ) → List Parameter → List BasicBlock → Type 0
@@ -33,10 +33,10 @@ if_error P e (Err y) h p = subst P (sym h) p
 module _ (text : List ℕ) (tokens : List Token) (t : FunctionTree) (is : IsTree (lexemes text tokens) t)
     (kept : too_many (tree t.header.parameters t.blocks) ≡ None) (lines : HasItsLines (map (λ t. t.line) tokens) t) where
   accepted : (tail : List ℕ) (f : Function) → duplicate_of (tree t.header.parameters t.blocks) ≡ None → unknown_of (tree t.header.parameters t.blocks) ≡ None
-      → tail ≡ bytes_between text (take (t.tail_end - t.tail_start) (drop t.tail_start tokens)) → f ≡ function_of (sentence_of (lexemes text tokens) t) tail
+      → tail ≡ bytes_between text (take (t.tail_end - t.tail_start) (drop t.tail_start tokens)) → f ≡ function_of (tree_sentence (lexemes text tokens) t) tail
       → IsAccepted text tokens f (record { of = t.lines })
   accepted tail f distinct known bytes function =
-      let s = sentence_of (lexemes text tokens) t in
+      let s = tree_sentence (lexemes text tokens) t in
       let start : t.tail_start ≡ length (header s) = is.start in
       let end : t.tail_start + length s.tail ≡ t.tail_end = is.tail in
       let size : length s.tail ≡ t.tail_end - t.tail_start = omega (arith, end) in
@@ -58,10 +58,10 @@ module _ (text : List ℕ) (tokens : List Token) (t : FunctionTree) (is : IsTree
 
   refused : (e : Outside) → Refuses t.header.parameters t.blocks e → (e ≡ Outside.Memory) ⊎ IsReason text tokens e
   refused Outside.Memory r = inl refl
-  refused (Outside.Duplicate name) (inl d) = inr (record { sentence = sentence_of (lexemes text tokens) t; is = is.is; kept = kept; repeated = d })
+  refused (Outside.Duplicate name) (inl d) = inr (record { sentence = tree_sentence (lexemes text tokens) t; is = is.is; kept = kept; repeated = d })
   refused (Outside.Duplicate name) (inr u) = absurd u.1
   refused (Outside.Unknown name) (inl d) = absurd d
-  refused (Outside.Unknown name) (inr u) = inr (record { sentence = sentence_of (lexemes text tokens) t; is = is.is; kept = kept; distinct = u.0; unknown = u.1 })
+  refused (Outside.Unknown name) (inr u) = inr (record { sentence = tree_sentence (lexemes text tokens) t; is = is.is; kept = kept; distinct = u.0; unknown = u.1 })
   refused (Outside.Shape line) (inl d) = absurd d
   refused (Outside.Shape line) (inr u) = absurd u.1
   refused (Outside.TooMany kind) (inl d) = absurd d

@@ -1,4 +1,4 @@
--- Metadata behind an instruction is read exactly.
+-- Metadata after an instruction is read exactly.
 use Rattle.std.proofs.Common.{◌≡◌, ℕ, ◌<◌, true, false, List, [], ◌∷◌, length, Ok, Err, refl, subst}
 use Rattle.vfa_ir.specs.declared.syntax.Attachment.{Attachment}
 use Rattle.vfa_ir.specs.Grammar.{FitsAttachment}
@@ -12,6 +12,7 @@ use Rattle.vfa_read.proofs.Exact.{Exact, Made, anything, after_exact, made_exact
 use Rattle.vfa_read.proofs.LeafReaders.{mark_exact, kind_exact, node_exact}
 use Rattle.vfa_read.proofs.Many.{Begins, FitsFrom, follow_many, many_exact, many_item, many_bad, many_done, shorter}
 use Rattle.std.proofs.Common.{IsTrue, not}
+use Rattle.std.specs.Str.{byte}
 
 abbrev Parts : Type 0
 Parts = List ℕ × List ℕ
@@ -34,26 +35,26 @@ pair_exact = fits_exact (made attachment_of (after (one metadata_kind) (λ _. on
 
 pub attachment_exact : Exact attachment spell.attachment FitsAttachment anything
 unfolding attachment
-attachment_exact = skip_exact (the_mark 44) (mark 44) metadata_pair (λ a. metadata a.kind ∷ metadata a.node ∷ []) FitsAttachment anything (mark_exact 44) pair_exact
+attachment_exact = skip_exact (the_mark (byte ",")) (mark (byte ",")) metadata_pair (λ a. metadata a.kind ∷ metadata a.node ∷ []) FitsAttachment anything (mark_exact (byte ",")) pair_exact
 
-attachment_begins : (s : Unit {0}) (a : Attachment) → FitsAttachment a → Begins (is_mark 44) (spell.attachment a)
-attachment_begins s a f = record { head = mark 44; more = metadata a.kind ∷ metadata a.node ∷ []; is = refl; passes = refl }
+attachment_begins : (s : Unit {0}) (a : Attachment) → FitsAttachment a → Begins (is_mark (byte ",")) (spell.attachment a)
+attachment_begins s a f = record { head = mark (byte ","); more = metadata a.kind ∷ metadata a.node ∷ []; is = refl; passes = refl }
 
-pub attachments_exact : Exact attachments spell.attachments (FitsFrom (λ _. FitsAttachment) same_state tt) (follow_many (is_mark 44) anything)
+pub attachments_exact : Exact attachments spell.attachments (FitsFrom (λ _. FitsAttachment) same_state tt) (follow_many (is_mark (byte ",")) anything)
 unfolding attachments
-attachments_exact = many_exact (is_mark 44) (λ _. attachment) same_state spell.attachment (λ _. FitsAttachment) anything (λ _. attachment_exact) attachment_begins (λ x l e. refl) tt
+attachments_exact = many_exact (is_mark (byte ",")) (λ _. attachment) same_state spell.attachment (λ _. FitsAttachment) anything (λ _. attachment_exact) attachment_begins (λ x l e. refl) tt
 
-pub attachments_done : (ts : List Lexeme) → next_passes (is_mark 44) ts ≡ false → attachments ts ≡ Ok ([], ts)
+pub attachments_done : (ts : List Lexeme) → next_passes (is_mark (byte ",")) ts ≡ false → attachments ts ≡ Ok ([], ts)
 unfolding attachments
-attachments_done ts t = many_done (is_mark 44) (λ _. attachment) same_state spell.attachment (λ _. FitsAttachment) anything (λ _. attachment_exact) attachment_begins (λ x l e. refl) tt ts t
+attachments_done ts t = many_done (is_mark (byte ",")) (λ _. attachment) same_state spell.attachment (λ _. FitsAttachment) anything (λ _. attachment_exact) attachment_begins (λ x l e. refl) tt ts t
 
-pub attachments_item : (ts rest : List Lexeme) (x : Attachment) → next_passes (is_mark 44) ts ≡ true → attachment ts ≡ Ok (x, rest) → attachments ts ≡ (attachments rest >>= λ q. Ok (x ∷ q.0, q.1))
+pub attachments_item : (ts rest : List Lexeme) (x : Attachment) → next_passes (is_mark (byte ",")) ts ≡ true → attachment ts ≡ Ok (x, rest) → attachments ts ≡ (attachments rest >>= λ q. Ok (x ∷ q.0, q.1))
 unfolding attachments
-attachments_item ts rest x t e = many_item (is_mark 44) (λ _. attachment) same_state spell.attachment (λ _. FitsAttachment) anything (λ _. attachment_exact) attachment_begins (λ x l e. refl) tt ts rest x t e
+attachments_item ts rest x t e = many_item (is_mark (byte ",")) (λ _. attachment) same_state spell.attachment (λ _. FitsAttachment) anything (λ _. attachment_exact) attachment_begins (λ x l e. refl) tt ts rest x t e
 
-pub attachments_bad : (ts : List Lexeme) (k : ℕ) → next_passes (is_mark 44) ts ≡ true → attachment ts ≡ Err k → attachments ts ≡ Err k
+pub attachments_bad : (ts : List Lexeme) (k : ℕ) → next_passes (is_mark (byte ",")) ts ≡ true → attachment ts ≡ Err k → attachments ts ≡ Err k
 unfolding attachments
-attachments_bad ts k t e = many_bad (is_mark 44) (λ _. attachment) same_state spell.attachment (λ _. FitsAttachment) anything (λ _. attachment_exact) attachment_begins (λ x l e. refl) tt ts k t e
+attachments_bad ts k t e = many_bad (is_mark (byte ",")) (λ _. attachment) same_state spell.attachment (λ _. FitsAttachment) anything (λ _. attachment_exact) attachment_begins (λ x l e. refl) tt ts k t e
 
 pub attachment_shorter : (ts rest : List Lexeme) (x : Attachment) → attachment ts ≡ Ok (x, rest) → length rest < length ts
-attachment_shorter ts rest x e = shorter (is_mark 44) (λ _. attachment) same_state spell.attachment (λ _. FitsAttachment) anything (λ _. attachment_exact) attachment_begins (λ x l e. refl) tt ts rest x e
+attachment_shorter ts rest x e = shorter (is_mark (byte ",")) (λ _. attachment) same_state spell.attachment (λ _. FitsAttachment) anything (λ _. attachment_exact) attachment_begins (λ x l e. refl) tt ts rest x e

@@ -1,5 +1,6 @@
 -- Reading flags, and a binary operation with its flags, is exact.
 use Rattle.std.proofs.Common.{◌≡◌, ℕ, Bool, true, false, not, cond, List, [], ◌∷◌, ◌++◌, map, ◌⊎◌, ⊎_elim, bytes_eq, codes, refl, sym, ap, ◌∙◌}
+use Rattle.std.specs.Str.{byte}
 use Rattle.vfa_ir.specs.declared.operations.Bin.{Bin}
 use Rattle.vfa_ir.specs.Lexemes.{Lexeme, word, mark}
 use Rattle.vfa_ir.specs.Grammar.{IsWidth}
@@ -9,7 +10,7 @@ use Rattle.vfa_read.specs.Readers.{one, nothing, after, made, choose, next_passe
 use Rattle.vfa_read.specs.Tables.{the_word, type_of}
 use Rattle.vfa_read.proofs.Exact.{Exact, Made, anything, may_anything, nothing_exact, after_exact, made_exact, choose_exact, optional_exact, spelled_exact}
 use Rattle.vfa_read.proofs.LeafReaders.{word_exact}
-use Rattle.vfa_read.proofs.FormReaders.{Two, FitsTwo, op_follow, behind, operands_exact, typed_exact}
+use Rattle.vfa_read.proofs.FormReaders.{Two, FitsTwo, op_follow, after_word, operands_exact, typed_exact}
 use Rattle.vfa_read.proofs.Words.{same_itself}
 
 -- a word that may lack
@@ -17,9 +18,6 @@ use Rattle.vfa_read.proofs.Words.{same_itself}
 abbrev pub word_follow : List ℕ → List (List ℕ) → Lexeme → Bool
 word_follow text [] l = not (is_word text l)
 word_follow text (_ ∷ _) l = true
-
-abbrev Alone : List ℕ → Unit {0} → List (List ℕ)
-Alone text _ = text ∷ []
 
 abbrev pub OptionalFits : List ℕ → List (List ℕ) → Type 0
 OptionalFits text ws = Made {A = Unit {0}} (λ _. text ∷ []) (λ _. Unit {0}) ws ⊎ (ws ≡ [])
@@ -156,15 +154,15 @@ type_follows Bin.Or ws w = word_type (codes "disjoint") (λ _. refl) ws w
 type_follows Bin.Xor ws w = refl
 
 abbrev pub BinaryFits : Bin → List (List ℕ) × (ℕ × Two) → Type 0
-BinaryFits bin p = FlagsFit bin p.0 × (IsWidth p.1.0 × FitsTwo p.1.0 p.1.1)
+BinaryFits bin (flags, (width, two)) = FlagsFit bin flags × (IsWidth width × FitsTwo width two)
 
 abbrev typed_two : ℕ × Two → List Lexeme
-typed_two q = spell.type q.0 ∷ (spell.value q.1.0 ++ (mark 44 ∷ spell.value q.1.1))
+typed_two (width, (a, b)) = spell.type width ∷ (spell.value a ++ (mark (byte ",") ∷ spell.value b))
 
-pub binary_exact : (bin : Bin) → Exact (binary bin) behind (Made (binary_of bin) (BinaryFits bin)) op_follow
+pub binary_exact : (bin : Bin) → Exact (binary bin) after_word (Made (binary_of bin) (BinaryFits bin)) op_follow
 unfolding binary
-binary_exact bin = made_exact (binary_of bin) (after (flags bin) (λ _. after (one type_of) operands)) (λ p. map word p.0 ++ typed_two p.1) (BinaryFits bin) anything behind op_follow
+binary_exact bin = made_exact (binary_of bin) (after (flags bin) (λ _. after (one type_of) operands)) (λ p. map word p.0 ++ typed_two p.1) (BinaryFits bin) anything after_word op_follow
     (after_exact (flags bin) (λ _. after (one type_of) operands) (map word) (FlagsFit bin) (flag_follow bin) (λ _ q. typed_two q) (λ _ q. IsWidth q.0 × FitsTwo q.0 q.1) (λ _ q. anything q)
-    (flags_exact bin) (λ _ _. typed_exact operands (λ w p. spell.value p.0 ++ (mark 44 ∷ spell.value p.1)) FitsTwo operands_exact)
+    (flags_exact bin) (λ _ _. typed_exact operands (λ w p. spell.value p.0 ++ (mark (byte ",") ∷ spell.value p.1)) FitsTwo operands_exact)
     (λ a b rest f g m. type_follows bin a b.0))
     (λ p f. refl) (λ p f. refl)

@@ -2,12 +2,14 @@
 use Rattle.std.proofs.Common.{◌≡◌, ℕ, ◌<◌, Bool, true, false, not, List, [], ◌∷◌, ◌++◌, map, flat_map, length, All, append_assoc, ◌∙◌, Option, Some, None, Ok, Err, ◌⊎◌, inl, inr, ⊎_elim, codes, refl, sym, ap, subst}
 use Rattle.std.specs.List.{AllByRecursion, join_by}
 use Rattle.std.proofs.lemmas.List.Elements.{recursion_from_All, All-from_recursion}
+use Rattle.std.specs.Str.{byte}
 use Rattle.vfa_ir.specs.declared.syntax.Attachment.{Attachment}
 use Rattle.vfa_read.specs.declared.lines.Line.{Line}
 use Rattle.vfa_ir.specs.declared.syntax.Operation.{Operation}
 use Rattle.vfa_ir.specs.declared.syntax.SwitchCase.{SwitchCase}
 use Rattle.vfa_ir.specs.declared.syntax.Terminator.{Terminator}
 use Rattle.vfa_ir.specs.declared.syntax.TerminatorKind.{TerminatorKind}
+use Rattle.vfa_ir.specs.declared.syntax.Written.{Written}
 use Rattle.vfa_ir.specs.Lexemes.{Lexeme, local, nameless_local, word, mark}
 use Rattle.vfa_ir.specs.declared.syntax.Instruction.{Instruction}
 use Rattle.vfa_ir.specs.declared.syntax.PhiNode.{PhiNode}
@@ -66,10 +68,14 @@ cases_from : (w : ℕ) (cs : List SwitchCase) → AllByRecursion (λ c. FitsLite
 cases_from w [] f = tt
 cases_from w (c ∷ cs) f = (f.0, cases_from w cs f.1)
 
+switch_to : (p : ℕ × (Written × (List ℕ × List SwitchCase))) → SwitchFits p → FitsTerminatorKind (switch_of p)
+switch_to (width, (on, (other, cases))) (wide, (value, (_, numbers))) =
+    (wide, value, All-from_recursion (λ c. FitsLiteral width c.number) cases (cases_to width cases numbers))
+
 ending_to : (e : Ending) (t : TerminatorKind) → EndingFits e t → FitsTerminatorKind t
 ending_to Ending.Return t m = subst FitsTerminatorKind m.is m.fits
 ending_to Ending.Branch t f = ⊎_elim (λ m. subst FitsTerminatorKind m.is tt) (λ m. subst FitsTerminatorKind m.is m.fits.0) f
-ending_to Ending.Switch t m = subst FitsTerminatorKind m.is (m.fits.0, m.fits.1.0, All-from_recursion (λ c. FitsLiteral m.from.0 c.number) m.from.1.1.1 (cases_to m.from.0 m.from.1.1.1 m.fits.1.1.1))
+ending_to Ending.Switch t m = subst FitsTerminatorKind m.is (switch_to m.from m.fits)
 ending_to Ending.Unreachable t e = subst FitsTerminatorKind (sym e) tt
 
 abbrev EndedFits : Ending × TerminatorKind → Type 0
@@ -121,14 +127,14 @@ op_word (Operation.Assume words _) l h = h words.groups
 op_word (Operation.Call words _ _ _ _) l h = h words.groups
 op_word _ l h = refl
 
-pub line_then : (x : Line) (l : Lexeme) → is_mark 44 l ≡ false → is_group l ≡ false → line_follow x l ≡ true
+pub line_then : (x : Line) (l : Lexeme) → is_mark (byte ",") l ≡ false → is_group l ≡ false → line_follow x l ≡ true
 line_then (Line.Phi p) l m g = ap not m
 line_then (Line.Plain i) l m g = plain_then i.operation i.attached
   where
     plain_then : (op : Operation) (xs : List Attachment) → plain_follow op xs l ≡ true
-    plain_then op [] = and_both (attach_follow [] l) (op_follow op l) (and_both (not (is_mark 44 l)) true (ap not m) refl)
+    plain_then op [] = and_both (attach_follow [] l) (op_follow op l) (and_both (not (is_mark (byte ",") l)) true (ap not m) refl)
         (op_word op l (λ gs. and_both (not (is_group l)) _ (ap not g) (last_any gs l)))
-    plain_then op (x ∷ xs) = and_both (not (is_mark 44 l)) _ (ap not m) (last_any (x ∷ xs) l)
+    plain_then op (x ∷ xs) = and_both (not (is_mark (byte ",") l)) _ (ap not m) (last_any (x ∷ xs) l)
 
 line_joins : (x : Line) (l : Lexeme) → starts_line l ≡ true → line_follow x l ≡ true
 line_joins x (local n) e = line_then x (local n) refl refl
@@ -144,13 +150,13 @@ call_begins (Some t) ls xs k = record { head = word t; more = (word (codes "call
 
 plain_begins : (r : Option (List ℕ)) (op : Operation) (xs : List Attachment) → FitsInstruction (record { result = r; operation = op; attached = xs }) →
     Begins starts_line (spell.result r ++ (spell.operation op ++ spell.attachments xs))
-plain_begins (Some r) op xs f = record { head = local r; more = mark 61 ∷ (spell.operation op ++ spell.attachments xs); is = refl; passes = refl }
+plain_begins (Some r) op xs f = record { head = local r; more = mark (byte "=") ∷ (spell.operation op ++ spell.attachments xs); is = refl; passes = refl }
 plain_begins None (Operation.Assume c x) xs f = call_begins c.marker _ (spell.attachments xs) f.operation.0.marker
 plain_begins None (Operation.Call c attributes None name ys) xs f = call_begins c.marker _ (spell.attachments xs) f.operation.0.marker
 plain_begins None _ xs f = absurd f.result
 
 pub line_begins : (s : Bool) (x : Line) → LineFits s x → Begins starts_line (items.line x)
-line_begins s (Line.Phi p) f = record { head = local p.result; more = mark 61 ∷ word (codes "phi") ∷ spell.type p.width ∷ (join_by spell.incoming (mark 44 ∷ []) p.entries ++ spell.attachments p.attached); is = refl; passes = refl }
+line_begins s (Line.Phi p) f = record { head = local p.result; more = mark (byte "=") ∷ word (codes "phi") ∷ spell.type p.width ∷ (join_by spell.incoming (mark (byte ",") ∷ []) p.entries ++ spell.attachments p.attached); is = refl; passes = refl }
 line_begins s (Line.Plain i) f = plain_begins i.result i.operation i.attached f
 
 pub lines_from : (s : Bool) (ls : List Line) → FitsLines s ls → FitsFrom LineFits still_phis s ls

@@ -1,6 +1,7 @@
--- Reading a call, behind the word `call`, is exact.
+-- Reading a call, after the word `call`, is exact.
 use Rattle.std.proofs.Common.{◌≡◌, ℕ, Bool, true, false, not, cond, IsTrue, List, [], ◌∷◌, ◌++◌, map, find, flat_map, length, ◌<◌, All, option_map, Option, Some, None, Ok, Err, ◌⊎◌, ⊎_elim, bytes_eq, codes, refl, sym, ap, ◌∙◌, subst, append_assoc}
 use Rattle.std.specs.List.{join_by}
+use Rattle.std.specs.Str.{byte}
 use Rattle.vfa_ir.specs.declared.operations.Fun1.{Fun1}
 use Rattle.vfa_ir.specs.declared.operations.Fun2.{Fun2}
 use Rattle.vfa_ir.specs.declared.operations.Over.{Over}
@@ -64,18 +65,18 @@ group_shorter ts rest x e = shorter is_group (λ _. one group_digits) same_state
 
 -- arguments
 
-pub arguments_exact : (w : ℕ) → IsWidth w → Exact (arguments w) (λ p. mark 40 ∷ ((spell.typed w p.0 ++ (mark 44 ∷ spell.typed w p.1)) ++ (mark 41 ∷ []))) (FitsTwo w) anything
-arguments_exact w h = skip_exact (the_mark 40) (mark 40) (skip (the_type w) (ended (typed_operands w) (the_mark 41)))
-    (λ p. (spell.typed w p.0 ++ (mark 44 ∷ spell.typed w p.1)) ++ (mark 41 ∷ [])) (FitsTwo w) anything (mark_exact 40)
-    (skip_exact (the_type w) (spell.type w) (ended (typed_operands w) (the_mark 41))
-    (λ p. (spell.value p.0 ++ (mark 44 ∷ spell.typed w p.1)) ++ (mark 41 ∷ [])) (FitsTwo w) anything (the_type_exact w h)
-    (ended_exact (typed_operands w) (the_mark 41) (mark 41) (λ p. spell.value p.0 ++ (mark 44 ∷ spell.typed w p.1)) (FitsTwo w) anything
-    (typed_operands_exact w h) (mark_exact 41) (λ x f. refl)))
+pub arguments_exact : (w : ℕ) → IsWidth w → Exact (arguments w) (λ p. mark (byte "(") ∷ ((spell.typed w p.0 ++ (mark (byte ",") ∷ spell.typed w p.1)) ++ (mark (byte ")") ∷ []))) (FitsTwo w) anything
+arguments_exact w h = skip_exact (the_mark (byte "(")) (mark (byte "(")) (skip (the_type w) (ended (typed_operands w) (the_mark (byte ")"))))
+    (λ p. (spell.typed w p.0 ++ (mark (byte ",") ∷ spell.typed w p.1)) ++ (mark (byte ")") ∷ [])) (FitsTwo w) anything (mark_exact (byte "("))
+    (skip_exact (the_type w) (spell.type w) (ended (typed_operands w) (the_mark (byte ")")))
+    (λ p. (spell.value p.0 ++ (mark (byte ",") ∷ spell.typed w p.1)) ++ (mark (byte ")") ∷ [])) (FitsTwo w) anything (the_type_exact w h)
+    (ended_exact (typed_operands w) (the_mark (byte ")")) (mark (byte ")")) (λ p. spell.value p.0 ++ (mark (byte ",") ∷ spell.typed w p.1)) (FitsTwo w) anything
+    (typed_operands_exact w h) (mark_exact (byte ")")) (λ x f. refl)))
 
-strict_some : Exact (made Some (skip (the_mark 44) (skip (the_type 1) (one (literal_of 1))))) spell.strict_argument (Made Some (FitsLiteral 1)) anything
-strict_some = made_exact Some (skip (the_mark 44) (skip (the_type 1) (one (literal_of 1)))) (λ l. mark 44 ∷ spell.type 1 ∷ spell.literal l) (FitsLiteral 1) anything
+strict_some : Exact (made Some (skip (the_mark (byte ",")) (skip (the_type 1) (one (literal_of 1))))) spell.strict_argument (Made Some (FitsLiteral 1)) anything
+strict_some = made_exact Some (skip (the_mark (byte ",")) (skip (the_type 1) (one (literal_of 1)))) (λ l. mark (byte ",") ∷ spell.type 1 ∷ spell.literal l) (FitsLiteral 1) anything
     spell.strict_argument anything
-    (skip_exact (the_mark 44) (mark 44) (skip (the_type 1) (one (literal_of 1))) (λ l. spell.type 1 ∷ spell.literal l) (FitsLiteral 1) anything (mark_exact 44)
+    (skip_exact (the_mark (byte ",")) (mark (byte ",")) (skip (the_type 1) (one (literal_of 1))) (λ l. spell.type 1 ∷ spell.literal l) (FitsLiteral 1) anything (mark_exact (byte ","))
     (skip_exact (the_type 1) (spell.type 1) (one (literal_of 1)) spell.literal (FitsLiteral 1) anything (the_type_exact 1 one_wide) (literal_exact 1 one_wide)))
     (λ l f. refl) (λ l f. refl)
 
@@ -104,53 +105,53 @@ strict_exact Fun1.Cttz = fits_exact (strict_argument Fun1.Cttz) spell.strict_arg
 abbrev IntrinsicArgument : ℕ → Fun1 → Written × Option Literal → Type 0
 IntrinsicArgument w fun p = FitsValue w p.0 × FitsStrict fun p.1
 
-pub argument_exact : (w : ℕ) (fun : Fun1) → IsWidth w → Exact (argument w fun) (λ p. mark 40 ∷ ((spell.typed w p.0 ++ spell.strict_argument p.1) ++ (mark 41 ∷ []))) (IntrinsicArgument w fun) anything
-argument_exact w fun h = skip_exact (the_mark 40) (mark 40) (skip (the_type w) (ended (after (one (value_of w)) (λ _. strict_argument fun)) (the_mark 41)))
-    (λ p. (spell.typed w p.0 ++ spell.strict_argument p.1) ++ (mark 41 ∷ [])) (IntrinsicArgument w fun) anything (mark_exact 40)
-    (skip_exact (the_type w) (spell.type w) (ended (after (one (value_of w)) (λ _. strict_argument fun)) (the_mark 41))
-    (λ p. (spell.value p.0 ++ spell.strict_argument p.1) ++ (mark 41 ∷ [])) (IntrinsicArgument w fun) anything (the_type_exact w h)
-    (ended_exact (after (one (value_of w)) (λ _. strict_argument fun)) (the_mark 41) (mark 41) (λ p. spell.value p.0 ++ spell.strict_argument p.1) (IntrinsicArgument w fun) anything
+pub argument_exact : (w : ℕ) (fun : Fun1) → IsWidth w → Exact (argument w fun) (λ p. mark (byte "(") ∷ ((spell.typed w p.0 ++ spell.strict_argument p.1) ++ (mark (byte ")") ∷ []))) (IntrinsicArgument w fun) anything
+argument_exact w fun h = skip_exact (the_mark (byte "(")) (mark (byte "(")) (skip (the_type w) (ended (after (one (value_of w)) (λ _. strict_argument fun)) (the_mark (byte ")"))))
+    (λ p. (spell.typed w p.0 ++ spell.strict_argument p.1) ++ (mark (byte ")") ∷ [])) (IntrinsicArgument w fun) anything (mark_exact (byte "("))
+    (skip_exact (the_type w) (spell.type w) (ended (after (one (value_of w)) (λ _. strict_argument fun)) (the_mark (byte ")")))
+    (λ p. (spell.value p.0 ++ spell.strict_argument p.1) ++ (mark (byte ")") ∷ [])) (IntrinsicArgument w fun) anything (the_type_exact w h)
+    (ended_exact (after (one (value_of w)) (λ _. strict_argument fun)) (the_mark (byte ")")) (mark (byte ")")) (λ p. spell.value p.0 ++ spell.strict_argument p.1) (IntrinsicArgument w fun) anything
     (after_exact (one (value_of w)) (λ _. strict_argument fun) spell.value (FitsValue w) anything (λ _ s. spell.strict_argument s) (λ _ s. FitsStrict fun s) (λ _ s. anything s)
     (value_exact w h) (λ _ _. strict_exact fun) (λ a b rest f g m. may_anything a (spell.strict_argument b ++ rest)))
-    (mark_exact 41) (λ x f. refl)))
+    (mark_exact (byte ")")) (λ x f. refl)))
 
 -- a call from its arguments on, and from the type of its result on
 
-abbrev pub behind_callee : Operation → List Lexeme
-behind_callee (Operation.Two words _ w a b) = mark 40 ∷ ((spell.typed w a ++ (mark 44 ∷ spell.typed w b)) ++ (mark 41 ∷ map group words.groups))
-behind_callee (Operation.One words _ w a strict) = mark 40 ∷ ((spell.typed w a ++ spell.strict_argument strict) ++ (mark 41 ∷ map group words.groups))
-behind_callee _ = []
+abbrev pub after_callee : Operation → List Lexeme
+after_callee (Operation.Two words _ w a b) = mark (byte "(") ∷ ((spell.typed w a ++ (mark (byte ",") ∷ spell.typed w b)) ++ (mark (byte ")") ∷ map group words.groups))
+after_callee (Operation.One words _ w a strict) = mark (byte "(") ∷ ((spell.typed w a ++ spell.strict_argument strict) ++ (mark (byte ")") ∷ map group words.groups))
+after_callee _ = []
 
-abbrev pub behind_call : Operation → List Lexeme
-behind_call (Operation.Two words fun w a b) = spell.type w ∷ global (callee (fun2_word fun) w) ∷ behind_callee (Operation.Two words fun w a b)
-behind_call (Operation.One words fun w a strict) = spell.type w ∷ global (callee (fun1_word fun) w) ∷ behind_callee (Operation.One words fun w a strict)
-behind_call (Operation.Over words over w a b) = spell.pair_type w ++ (global (callee (over_word over) w) ∷ mark 40 ∷ ((spell.typed w a ++ (mark 44 ∷ spell.typed w b)) ++ (mark 41 ∷ map group words.groups)))
-behind_call (Operation.Assume words c) = word (codes "void") ∷ global (codes "llvm.assume") ∷ mark 40 ∷ (spell.typed 1 c ++ (mark 41 ∷ map group words.groups))
-behind_call _ = []
+abbrev pub after_call : Operation → List Lexeme
+after_call (Operation.Two words fun w a b) = spell.type w ∷ global (callee (fun2_word fun) w) ∷ after_callee (Operation.Two words fun w a b)
+after_call (Operation.One words fun w a strict) = spell.type w ∷ global (callee (fun1_word fun) w) ∷ after_callee (Operation.One words fun w a strict)
+after_call (Operation.Over words over w a b) = spell.pair_type w ++ (global (callee (over_word over) w) ∷ mark (byte "(") ∷ ((spell.typed w a ++ (mark (byte ",") ∷ spell.typed w b)) ++ (mark (byte ")") ∷ map group words.groups)))
+after_call (Operation.Assume words c) = word (codes "void") ∷ global (codes "llvm.assume") ∷ mark (byte "(") ∷ (spell.typed 1 c ++ (mark (byte ")") ∷ map group words.groups))
+after_call _ = []
 
-closed : (ls gs : List Lexeme) → mark 40 ∷ (ls ++ (mark 41 ∷ gs)) ≡ (mark 40 ∷ (ls ++ (mark 41 ∷ []))) ++ gs
-closed ls gs = ap (λ z. mark 40 ∷ z) (sym (append_assoc ls (mark 41 ∷ []) gs))
+closed : (ls gs : List Lexeme) → mark (byte "(") ∷ (ls ++ (mark (byte ")") ∷ gs)) ≡ (mark (byte "(") ∷ (ls ++ (mark (byte ")") ∷ []))) ++ gs
+closed ls gs = ap (λ z. mark (byte "(") ∷ z) (sym (append_assoc ls (mark (byte ")") ∷ []) gs))
 
 abbrev TwoFits : ℕ → (Written × Written) × List (List ℕ) → Type 0
 TwoFits w p = FitsTwo w p.0 × Unit {0}
 
-pub two_exact : (m : Option (List ℕ)) (w : ℕ) (fun : Fun2) → IsWidth w → Exact (two_call m w fun) behind_callee (Made (two_of m w fun) (TwoFits w)) op_follow
+pub two_exact : (m : Option (List ℕ)) (w : ℕ) (fun : Fun2) → IsWidth w → Exact (two_call m w fun) after_callee (Made (two_of m w fun) (TwoFits w)) op_follow
 unfolding two_call
 two_exact m w fun h = made_exact (two_of m w fun) (after (arguments w) (λ _. groups))
-    (λ p. (mark 40 ∷ ((spell.typed w p.0.0 ++ (mark 44 ∷ spell.typed w p.0.1)) ++ (mark 41 ∷ []))) ++ map group p.1) (TwoFits w) (λ p. group_follow p.1) behind_callee op_follow
-    (after_exact (arguments w) (λ _. groups) (λ p. mark 40 ∷ ((spell.typed w p.0 ++ (mark 44 ∷ spell.typed w p.1)) ++ (mark 41 ∷ []))) (FitsTwo w) anything
+    (λ p. (mark (byte "(") ∷ ((spell.typed w p.0.0 ++ (mark (byte ",") ∷ spell.typed w p.0.1)) ++ (mark (byte ")") ∷ []))) ++ map group p.1) (TwoFits w) (λ p. group_follow p.1) after_callee op_follow
+    (after_exact (arguments w) (λ _. groups) (λ p. mark (byte "(") ∷ ((spell.typed w p.0 ++ (mark (byte ",") ∷ spell.typed w p.1)) ++ (mark (byte ")") ∷ []))) (FitsTwo w) anything
     (λ _ g. map group g) (λ _ _. Unit {0}) (λ _ g. group_follow g) (arguments_exact w h) (λ _ _. groups_exact)
     (λ a b rest f g k. may_anything a (map group b ++ rest)))
-    (λ p f. closed (spell.typed w p.0.0 ++ (mark 44 ∷ spell.typed w p.0.1)) (map group p.1)) (λ p f. refl)
+    (λ p f. closed (spell.typed w p.0.0 ++ (mark (byte ",") ∷ spell.typed w p.0.1)) (map group p.1)) (λ p f. refl)
 
 abbrev OneFits : ℕ → Fun1 → (Written × Option Literal) × List (List ℕ) → Type 0
 OneFits w fun p = IntrinsicArgument w fun p.0 × Unit {0}
 
-pub one_call_exact : (m : Option (List ℕ)) (w : ℕ) (fun : Fun1) → IsWidth w → Exact (one_call m w fun) behind_callee (Made (one_of m w fun) (OneFits w fun)) op_follow
+pub one_call_exact : (m : Option (List ℕ)) (w : ℕ) (fun : Fun1) → IsWidth w → Exact (one_call m w fun) after_callee (Made (one_of m w fun) (OneFits w fun)) op_follow
 unfolding one_call
 one_call_exact m w fun h = made_exact (one_of m w fun) (after (argument w fun) (λ _. groups))
-    (λ p. (mark 40 ∷ ((spell.typed w p.0.0 ++ spell.strict_argument p.0.1) ++ (mark 41 ∷ []))) ++ map group p.1) (OneFits w fun) (λ p. group_follow p.1) behind_callee op_follow
-    (after_exact (argument w fun) (λ _. groups) (λ p. mark 40 ∷ ((spell.typed w p.0 ++ spell.strict_argument p.1) ++ (mark 41 ∷ []))) (IntrinsicArgument w fun) anything
+    (λ p. (mark (byte "(") ∷ ((spell.typed w p.0.0 ++ spell.strict_argument p.0.1) ++ (mark (byte ")") ∷ []))) ++ map group p.1) (OneFits w fun) (λ p. group_follow p.1) after_callee op_follow
+    (after_exact (argument w fun) (λ _. groups) (λ p. mark (byte "(") ∷ ((spell.typed w p.0 ++ spell.strict_argument p.1) ++ (mark (byte ")") ∷ []))) (IntrinsicArgument w fun) anything
     (λ _ g. map group g) (λ _ _. Unit {0}) (λ _ g. group_follow g) (argument_exact w fun h) (λ _ _. groups_exact)
     (λ a b rest f g k. may_anything a (map group b ++ rest)))
     (λ p f. closed (spell.typed w p.0.0 ++ spell.strict_argument p.0.1) (map group p.1)) (λ p f. refl)
@@ -306,21 +307,21 @@ pub argument_begins : (a : Argument) (rest : List Lexeme) → next_passes is_any
 argument_begins a rest = refl
 
 abbrev arguments_joined : List Argument → List Lexeme
-arguments_joined = join_by spell.argument (mark 44 ∷ [])
+arguments_joined = join_by spell.argument (mark (byte ",") ∷ [])
 
-call_arguments_exact : Exact call_arguments (λ xs. mark 40 ∷ (arguments_joined xs ++ (mark 41 ∷ []))) (All FitsArgument) anything
+call_arguments_exact : Exact call_arguments (λ xs. mark (byte "(") ∷ (arguments_joined xs ++ (mark (byte ")") ∷ []))) (All FitsArgument) anything
 unfolding call_arguments
-call_arguments_exact = skip_exact (the_mark 40) (mark 40) (ended (comma_list is_any_word call_argument) (the_mark 41)) (λ xs. arguments_joined xs ++ (mark 41 ∷ [])) (All FitsArgument) anything (mark_exact 40)
-    (ended_exact (comma_list is_any_word call_argument) (the_mark 41) (mark 41) arguments_joined (All FitsArgument)
+call_arguments_exact = skip_exact (the_mark (byte "(")) (mark (byte "(")) (ended (comma_list is_any_word call_argument) (the_mark (byte ")"))) (λ xs. arguments_joined xs ++ (mark (byte ")") ∷ [])) (All FitsArgument) anything (mark_exact (byte "("))
+    (ended_exact (comma_list is_any_word call_argument) (the_mark (byte ")")) (mark (byte ")")) arguments_joined (All FitsArgument)
     (commas_follow call_argument spell.argument FitsArgument anything call_argument_exact argument_marks is_any_word argument_begins)
-    (comma_list_exact call_argument spell.argument FitsArgument anything call_argument_exact argument_marks is_any_word argument_begins) (mark_exact 41)
+    (comma_list_exact call_argument spell.argument FitsArgument anything call_argument_exact argument_marks is_any_word argument_begins) (mark_exact (byte ")"))
     (λ xs f. commas_close call_argument spell.argument FitsArgument anything call_argument_exact argument_marks is_any_word argument_begins 41 refl refl xs))
 
 -- a call from its arguments on, and from its words on
 
 abbrev arguments_spelling : Operation → List Lexeme
-arguments_spelling (Operation.Call words _ _ _ arguments) = mark 40 ∷ (arguments_joined arguments ++ (mark 41 ∷ map group words.groups))
-arguments_spelling op = behind_callee op
+arguments_spelling (Operation.Call words _ _ _ arguments) = mark (byte "(") ∷ (arguments_joined arguments ++ (mark (byte ")") ∷ map group words.groups))
+arguments_spelling op = after_callee op
 
 abbrev OtherFits : List Argument × List (List ℕ) → Type 0
 OtherFits p = All FitsArgument p.0 × Unit {0}
@@ -328,8 +329,8 @@ OtherFits p = All FitsArgument p.0 × Unit {0}
 other_exact : (m : Option (List ℕ)) (words : List (List ℕ)) (width : Option ℕ) (name : List ℕ) → Exact (other_call m words width name) arguments_spelling (Made (other_of m words width name) OtherFits) op_follow
 unfolding other_call
 other_exact m words width name = made_exact (other_of m words width name) (after call_arguments (λ _. groups))
-    (λ p. (mark 40 ∷ (arguments_joined p.0 ++ (mark 41 ∷ []))) ++ map group p.1) OtherFits (λ p. group_follow p.1) arguments_spelling op_follow
-    (after_exact call_arguments (λ _. groups) (λ xs. mark 40 ∷ (arguments_joined xs ++ (mark 41 ∷ []))) (All FitsArgument) anything
+    (λ p. (mark (byte "(") ∷ (arguments_joined p.0 ++ (mark (byte ")") ∷ []))) ++ map group p.1) OtherFits (λ p. group_follow p.1) arguments_spelling op_follow
+    (after_exact call_arguments (λ _. groups) (λ xs. mark (byte "(") ∷ (arguments_joined xs ++ (mark (byte ")") ∷ []))) (All FitsArgument) anything
     (λ _ g. map group g) (λ _ _. Unit {0}) (λ _ g. group_follow g) call_arguments_exact (λ _ _. groups_exact)
     (λ a b rest f g k. may_anything a (map group b ++ rest)))
     (λ p f. closed (arguments_joined p.0) (map group p.1)) (λ p f. refl)
@@ -349,15 +350,15 @@ CalleeFits m words w (Callee.Known (Intrinsic.Two fun)) = Made (two_of m w fun) 
 CalleeFits m words w (Callee.Known (Intrinsic.One fun)) = Made (one_of m w fun) (OneFits w fun)
 CalleeFits m words w (Callee.Other name) = Made (other_of m words (Some w) name) OtherFits
 
-two_arguments : (m : Option (List ℕ)) (w : ℕ) (fun : Fun2) (op : Operation) → Made (two_of m w fun) (TwoFits w) op → behind_callee op ≡ arguments_spelling op
-two_arguments m w fun op f = subst (λ z. behind_callee z ≡ arguments_spelling z) f.is refl
+two_arguments : (m : Option (List ℕ)) (w : ℕ) (fun : Fun2) (op : Operation) → Made (two_of m w fun) (TwoFits w) op → after_callee op ≡ arguments_spelling op
+two_arguments m w fun op f = subst (λ z. after_callee z ≡ arguments_spelling z) f.is refl
 
-one_arguments : (m : Option (List ℕ)) (w : ℕ) (fun : Fun1) (op : Operation) → Made (one_of m w fun) (OneFits w fun) op → behind_callee op ≡ arguments_spelling op
-one_arguments m w fun op f = subst (λ z. behind_callee z ≡ arguments_spelling z) f.is refl
+one_arguments : (m : Option (List ℕ)) (w : ℕ) (fun : Fun1) (op : Operation) → Made (one_of m w fun) (OneFits w fun) op → after_callee op ≡ arguments_spelling op
+one_arguments m w fun op f = subst (λ z. after_callee z ≡ arguments_spelling z) f.is refl
 
 callee_call_exact : (m : Option (List ℕ)) (words : List (List ℕ)) (w : ℕ) (c : Callee) → IsWidth w → Exact (callee_call m words w c) arguments_spelling (CalleeFits m words w c) op_follow
-callee_call_exact m words w (Callee.Known (Intrinsic.Two fun)) h = spelled_exact (two_call m w fun) behind_callee arguments_spelling (Made (two_of m w fun) (TwoFits w)) op_follow (two_exact m w fun h) (two_arguments m w fun)
-callee_call_exact m words w (Callee.Known (Intrinsic.One fun)) h = spelled_exact (one_call m w fun) behind_callee arguments_spelling (Made (one_of m w fun) (OneFits w fun)) op_follow (one_call_exact m w fun h) (one_arguments m w fun)
+callee_call_exact m words w (Callee.Known (Intrinsic.Two fun)) h = spelled_exact (two_call m w fun) after_callee arguments_spelling (Made (two_of m w fun) (TwoFits w)) op_follow (two_exact m w fun h) (two_arguments m w fun)
+callee_call_exact m words w (Callee.Known (Intrinsic.One fun)) h = spelled_exact (one_call m w fun) after_callee arguments_spelling (Made (one_of m w fun) (OneFits w fun)) op_follow (one_call_exact m w fun h) (one_arguments m w fun)
 callee_call_exact m words w (Callee.Other name) h = other_exact m words (Some w) name
 
 abbrev pub NamedFits : Option (List ℕ) → List (List ℕ) → ℕ × (Callee × Operation) → Type 0
@@ -397,7 +398,7 @@ named_exact m words = made_exact named_of (after (one type_of) (named_rest m wor
 
 abbrev pub words_spelling : Operation → List Lexeme
 words_spelling (Operation.Call words attributes width name arguments) = map word attributes ++ named_spelling (Operation.Call words attributes width name arguments)
-words_spelling op = behind_call op
+words_spelling op = after_call op
 
 abbrev WordsSpelled : List (List ℕ) → Operation → Type 0
 WordsSpelled words op = words_spelling op ≡ map word words ++ named_spelling op
@@ -424,44 +425,44 @@ plain_exact m = made_exact last_of (after (words_among call_words) (named_call m
     (λ p f. plain_spelled m p f) (λ p f. refl)
 
 abbrev pub OverFits : ℕ × (Over × ((Written × Written) × List (List ℕ))) → Type 0
-OverFits p = IsWidth p.0 × (Unit {0} × (FitsTwo p.0 p.1.1.0 × Unit {0}))
+OverFits (width, (_, (two, _))) = IsWidth width × (Unit {0} × (FitsTwo width two × Unit {0}))
 
 abbrev over_arguments : ℕ → (Written × Written) × List (List ℕ) → List Lexeme
-over_arguments w p = (mark 40 ∷ ((spell.typed w p.0.0 ++ (mark 44 ∷ spell.typed w p.0.1)) ++ (mark 41 ∷ []))) ++ map group p.1
+over_arguments w ((a, b), digits) = (mark (byte "(") ∷ ((spell.typed w a ++ (mark (byte ",") ∷ spell.typed w b)) ++ (mark (byte ")") ∷ []))) ++ map group digits
 
-pub over_exact : (m : Option (List ℕ)) → Exact (over_call m) behind_call (Made (over_of m) OverFits) op_follow
+pub over_exact : (m : Option (List ℕ)) → Exact (over_call m) after_call (Made (over_of m) OverFits) op_follow
 unfolding over_call
 over_exact m = made_exact (over_of m) (after pair_type (λ width. after (one (callee_in over_word overs width)) (λ _. after (arguments width) (λ _. groups))))
-    (λ p. spell.pair_type p.0 ++ (global (callee (over_word p.1.0) p.0) ∷ over_arguments p.0 p.1.1)) OverFits (λ p. group_follow p.1.1.1) behind_call op_follow
+    (λ p. spell.pair_type p.0 ++ (global (callee (over_word p.1.0) p.0) ∷ over_arguments p.0 p.1.1)) OverFits (λ p. group_follow p.1.1.1) after_call op_follow
     (after_exact pair_type (λ width. after (one (callee_in over_word overs width)) (λ _. after (arguments width) (λ _. groups))) spell.pair_type IsWidth anything
     (λ w q. global (callee (over_word q.0) w) ∷ over_arguments w q.1) (λ w q. Unit {0} × (FitsTwo w q.1.0 × Unit {0})) (λ _ q. group_follow q.1.1) pair_type_exact
     (λ w h. after_exact (one (callee_in over_word overs w)) (λ _. after (arguments w) (λ _. groups)) (λ x. global (callee (over_word x) w) ∷ []) (λ _. Unit {0}) anything
     (λ _ q. over_arguments w q) (λ _ q. FitsTwo w q.0 × Unit {0}) (λ _ q. group_follow q.1) (over_callee_exact w)
-    (λ _ _. after_exact (arguments w) (λ _. groups) (λ p. mark 40 ∷ ((spell.typed w p.0 ++ (mark 44 ∷ spell.typed w p.1)) ++ (mark 41 ∷ []))) (FitsTwo w) anything
+    (λ _ _. after_exact (arguments w) (λ _. groups) (λ p. mark (byte "(") ∷ ((spell.typed w p.0 ++ (mark (byte ",") ∷ spell.typed w p.1)) ++ (mark (byte ")") ∷ []))) (FitsTwo w) anything
     (λ _ g. map group g) (λ _ _. Unit {0}) (λ _ g. group_follow g) (arguments_exact w h) (λ _ _. groups_exact)
     (λ a b rest f g k. may_anything a (map group b ++ rest)))
     (λ a b rest f g k. refl))
     (λ a b rest f g k. refl))
-    (λ p f. ap (λ z. spell.pair_type p.0 ++ (global (callee (over_word p.1.0) p.0) ∷ z)) (closed (spell.typed p.0 p.1.1.0.0 ++ (mark 44 ∷ spell.typed p.0 p.1.1.0.1)) (map group p.1.1.1)))
+    (λ p f. ap (λ z. spell.pair_type p.0 ++ (global (callee (over_word p.1.0) p.0) ∷ z)) (closed (spell.typed p.0 p.1.1.0.0 ++ (mark (byte ",") ∷ spell.typed p.0 p.1.1.0.1)) (map group p.1.1.1)))
     (λ p f. refl)
 
-no_brace : (ws : List (List ℕ)) (ls rest : List Lexeme) → next_passes (is_mark 123) (ls ++ rest) ≡ false → next_passes (is_mark 123) ((map word ws ++ ls) ++ rest) ≡ false
+no_brace : (ws : List (List ℕ)) (ls rest : List Lexeme) → next_passes (is_mark (byte "{")) (ls ++ rest) ≡ false → next_passes (is_mark (byte "{")) ((map word ws ++ ls) ++ rest) ≡ false
 no_brace [] ls rest e = e
 no_brace (w ∷ ws) ls rest e = refl
 
-named_no_brace : (m : Option (List ℕ)) (ws : List (List ℕ)) (op : Operation) (rest : List Lexeme) → Made named_of (NamedFits m ws) op → next_passes (is_mark 123) (named_spelling op ++ rest) ≡ false
+named_no_brace : (m : Option (List ℕ)) (ws : List (List ℕ)) (op : Operation) (rest : List Lexeme) → Made named_of (NamedFits m ws) op → next_passes (is_mark (byte "{")) (named_spelling op ++ rest) ≡ false
 named_no_brace m ws op rest n =
-    ap (λ z. next_passes (is_mark 123) (named_spelling z ++ rest)) (sym n.is)
-    ∙ ap (λ z. next_passes (is_mark 123) (z ++ rest)) (named_spelled m ws n.from.0 n.from.1.0 n.from.1.1 n.fits.1.1)
+    ap (λ z. next_passes (is_mark (byte "{")) (named_spelling z ++ rest)) (sym n.is)
+    ∙ ap (λ z. next_passes (is_mark (byte "{")) (z ++ rest)) (named_spelled m ws n.from.0 n.from.1.0 n.from.1.1 n.fits.1.1)
 
 pub call_exact : (m : Option (List ℕ)) → Exact (call m) words_spelling (λ op. Made (over_of m) OverFits op ⊎ Made last_of (PlainFits m) op) op_follow
 unfolding call
-call_exact m = choose_exact (is_mark 123) (over_call m) (plain_call m) words_spelling (Made (over_of m) OverFits) (Made last_of (PlainFits m)) op_follow
-    (spelled_exact (over_call m) behind_call words_spelling (Made (over_of m) OverFits) op_follow (over_exact m) (λ op f. subst (λ z. behind_call z ≡ words_spelling z) f.is refl))
+call_exact m = choose_exact (is_mark (byte "{")) (over_call m) (plain_call m) words_spelling (Made (over_of m) OverFits) (Made last_of (PlainFits m)) op_follow
+    (spelled_exact (over_call m) after_call words_spelling (Made (over_of m) OverFits) op_follow (over_exact m) (λ op f. subst (λ z. after_call z ≡ words_spelling z) f.is refl))
     (plain_exact m)
-    (λ op rest f k. ap (λ z. next_passes (is_mark 123) (words_spelling z ++ rest)) (sym f.is))
-    (λ op rest f k. ap (λ z. next_passes (is_mark 123) (words_spelling z ++ rest)) (sym f.is)
-    ∙ ap (λ z. next_passes (is_mark 123) (z ++ rest)) (plain_spelled m f.from f.fits)
+    (λ op rest f k. ap (λ z. next_passes (is_mark (byte "{")) (words_spelling z ++ rest)) (sym f.is))
+    (λ op rest f k. ap (λ z. next_passes (is_mark (byte "{")) (words_spelling z ++ rest)) (sym f.is)
+    ∙ ap (λ z. next_passes (is_mark (byte "{")) (z ++ rest)) (plain_spelled m f.from f.fits)
     ∙ no_brace f.from.0 (named_spelling f.from.1) rest (named_no_brace m f.from.0 f.from.1 rest f.fits.1))
 
 -- a call without a result
@@ -470,18 +471,18 @@ abbrev pub AssumeFits : Written × List (List ℕ) → Type 0
 AssumeFits p = FitsValue 1 p.0 × Unit {0}
 
 abbrev assumed : Reader Written
-assumed = skip (the_mark 40) (skip (the_type 1) (ended (one (value_of 1)) (the_mark 41)))
+assumed = skip (the_mark (byte "(")) (skip (the_type 1) (ended (one (value_of 1)) (the_mark (byte ")"))))
 
 abbrev assumed_spelling : Written → List Lexeme
-assumed_spelling c = mark 40 ∷ (spell.typed 1 c ++ (mark 41 ∷ []))
+assumed_spelling c = mark (byte "(") ∷ (spell.typed 1 c ++ (mark (byte ")") ∷ []))
 
 assumed_exact : Exact assumed assumed_spelling (FitsValue 1) anything
-assumed_exact = skip_exact (the_mark 40) (mark 40) (skip (the_type 1) (ended (one (value_of 1)) (the_mark 41))) (λ c. spell.typed 1 c ++ (mark 41 ∷ [])) (FitsValue 1) anything (mark_exact 40)
-    (skip_exact (the_type 1) (spell.type 1) (ended (one (value_of 1)) (the_mark 41)) (λ c. spell.value c ++ (mark 41 ∷ [])) (FitsValue 1) anything (the_type_exact 1 one_wide)
-    (ended_exact (one (value_of 1)) (the_mark 41) (mark 41) spell.value (FitsValue 1) anything (value_exact 1 one_wide) (mark_exact 41) (λ x f. refl)))
+assumed_exact = skip_exact (the_mark (byte "(")) (mark (byte "(")) (skip (the_type 1) (ended (one (value_of 1)) (the_mark (byte ")")))) (λ c. spell.typed 1 c ++ (mark (byte ")") ∷ [])) (FitsValue 1) anything (mark_exact (byte "("))
+    (skip_exact (the_type 1) (spell.type 1) (ended (one (value_of 1)) (the_mark (byte ")"))) (λ c. spell.value c ++ (mark (byte ")") ∷ [])) (FitsValue 1) anything (the_type_exact 1 one_wide)
+    (ended_exact (one (value_of 1)) (the_mark (byte ")")) (mark (byte ")")) spell.value (FitsValue 1) anything (value_exact 1 one_wide) (mark_exact (byte ")")) (λ x f. refl)))
 
 abbrev void_arguments : Operation → List Lexeme
-void_arguments (Operation.Assume words c) = mark 40 ∷ (spell.typed 1 c ++ (mark 41 ∷ map group words.groups))
+void_arguments (Operation.Assume words c) = mark (byte "(") ∷ (spell.typed 1 c ++ (mark (byte ")") ∷ map group words.groups))
 void_arguments op = arguments_spelling op
 
 assume_exact : (m : Option (List ℕ)) → Exact (assume_call m) void_arguments (Made (assume_of m) AssumeFits) op_follow

@@ -20,7 +20,7 @@ not_same a b h = go (bytes_eq a b) refl
 pub is_same : (a b : List ℕ) → a ≡ b → bytes_eq a b ≡ true
 is_same a b e = ap (bytes_eq a) (sym e) ∙ same_itself a
 
--- what stands behind a prefix
+-- what stands after a prefix
 
 pub prefix_none : (text prefix : List ℕ) → bytes_eq (take (length prefix) text) prefix ≡ false → (rest : List ℕ) → text ≡ prefix ++ rest → ⊥
 prefix_none text prefix e rest is =
@@ -37,24 +37,24 @@ module _ (name intrinsic : List ℕ) (w : ℕ) where
   whole : callee intrinsic w ≡ codes "llvm." ++ (intrinsic ++ (codes "." ++ type_word w))
   whole = ap (λ z. codes "llvm." ++ z) (append_assoc intrinsic (codes ".") (type_word w))
 
-  behind_llvm : (one : List ℕ) → name ≡ codes "llvm." ++ one → name ≡ callee intrinsic w → one ≡ intrinsic ++ (codes "." ++ type_word w)
-  behind_llvm one is e = append_cancel_left (codes "llvm.") one (intrinsic ++ (codes "." ++ type_word w)) (sym is ∙ e ∙ whole)
+  after_llvm : (one : List ℕ) → name ≡ codes "llvm." ++ one → name ≡ callee intrinsic w → one ≡ intrinsic ++ (codes "." ++ type_word w)
+  after_llvm one is e = append_cancel_left (codes "llvm.") one (intrinsic ++ (codes "." ++ type_word w)) (sym is ∙ e ∙ whole)
 
-  behind_intrinsic : (one two : List ℕ) → name ≡ codes "llvm." ++ one → one ≡ intrinsic ++ two → name ≡ callee intrinsic w → two ≡ codes "." ++ type_word w
-  behind_intrinsic one two is then_is e = append_cancel_left intrinsic two (codes "." ++ type_word w) (sym then_is ∙ behind_llvm one is e)
+  after_intrinsic : (one two : List ℕ) → name ≡ codes "llvm." ++ one → one ≡ intrinsic ++ two → name ≡ callee intrinsic w → two ≡ codes "." ++ type_word w
+  after_intrinsic one two is then_is e = append_cancel_left intrinsic two (codes "." ++ type_word w) (sym then_is ∙ after_llvm one is e)
 
-  behind_dot : (one two three : List ℕ) → name ≡ codes "llvm." ++ one → one ≡ intrinsic ++ two → two ≡ codes "." ++ three → name ≡ callee intrinsic w → three ≡ type_word w
-  behind_dot one two three is then_is last_is e = append_cancel_left (codes ".") three (type_word w) (sym last_is ∙ behind_intrinsic one two is then_is e)
+  after_dot : (one two three : List ℕ) → name ≡ codes "llvm." ++ one → one ≡ intrinsic ++ two → two ≡ codes "." ++ three → name ≡ callee intrinsic w → three ≡ type_word w
+  after_dot one two three is then_is last_is e = append_cancel_left (codes ".") three (type_word w) (sym last_is ∙ after_intrinsic one two is then_is e)
 
   pub no_intrinsic : (one : List ℕ) → name ≡ codes "llvm." ++ one → ((rest : List ℕ) → one ≡ intrinsic ++ rest → ⊥) → false ≡ bytes_eq name (callee intrinsic w)
-  no_intrinsic one is none = not_same name (callee intrinsic w) (λ e. none (codes "." ++ type_word w) (behind_llvm one is e))
+  no_intrinsic one is none = not_same name (callee intrinsic w) (λ e. none (codes "." ++ type_word w) (after_llvm one is e))
 
   pub no_dot : (one two : List ℕ) → name ≡ codes "llvm." ++ one → one ≡ intrinsic ++ two → ((rest : List ℕ) → two ≡ codes "." ++ rest → ⊥) → false ≡ bytes_eq name (callee intrinsic w)
-  no_dot one two is then_is none = not_same name (callee intrinsic w) (λ e. none (type_word w) (behind_intrinsic one two is then_is e))
+  no_dot one two is then_is none = not_same name (callee intrinsic w) (λ e. none (type_word w) (after_intrinsic one two is then_is e))
 
   pub no_type : (one two three : List ℕ) → name ≡ codes "llvm." ++ one → one ≡ intrinsic ++ two → two ≡ codes "." ++ three → IsWidth w → None ≡ type_width three → false ≡ bytes_eq name (callee intrinsic w)
   no_type one two three is then_is last_is h t = not_same name (callee intrinsic w)
-      (λ e. let found = is_width w h in let last = behind_dot one two three is then_is last_is e in let k = ap type_width last in cc)
+      (λ e. let found = is_width w h in let last = after_dot one two three is then_is last_is e in let k = ap type_width last in cc)
 
   pub one_type : (one two three : List ℕ) (found : ℕ) → name ≡ codes "llvm." ++ one → one ≡ intrinsic ++ two → two ≡ codes "." ++ three → IsWidth w → Some found ≡ type_width three → nat_eq found w ≡ bytes_eq name (callee intrinsic w)
   one_type one two three found is then_is last_is h t = go (nat_eq found w) refl
@@ -68,7 +68,7 @@ module _ (name intrinsic : List ℕ) (w : ℕ) where
 
       differs : nat_eq found w ≡ false → name ≡ callee intrinsic w → ⊥
       differs e s =
-          let last = behind_dot one two three is then_is last_is s in
+          let last = after_dot one two three is then_is last_is s in
           let v = some_is found w (t ∙ ap type_width last ∙ is_width w h) in
           true≢false (sym (itself found) ∙ ap (nat_eq found) v ∙ e)
 

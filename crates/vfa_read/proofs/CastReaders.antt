@@ -1,4 +1,4 @@
--- Reading a conversion with its flags, behind its word, is exact.
+-- Reading a conversion with its flags, after its word, is exact.
 use Rattle.std.proofs.Common.{◌≡◌, ℕ, Bool, true, List, [], ◌∷◌, ◌++◌, map, codes, refl}
 use Rattle.vfa_ir.specs.declared.operations.Cast.{Cast}
 use Rattle.vfa_ir.specs.declared.syntax.Written.{Written}
@@ -10,7 +10,7 @@ use Rattle.vfa_read.specs.Readers.{one, after, skip}
 use Rattle.vfa_read.specs.Tables.{the_word, type_of, value_of}
 use Rattle.vfa_read.proofs.BinaryReaders.{OptionalFits, WrapFits, no_flags_exact, optional_word_exact, word_follow, word_type, wrap_exact, wrap_follow, wrap_type}
 use Rattle.vfa_read.proofs.Exact.{Exact, Made, anything, may_anything, after_exact, made_exact, skip_exact}
-use Rattle.vfa_read.proofs.FormReaders.{op_follow, behind, typed_exact}
+use Rattle.vfa_read.proofs.FormReaders.{op_follow, after_word, typed_exact}
 use Rattle.vfa_read.proofs.LeafReaders.{word_exact, type_exact, value_exact}
 
 abbrev pub CastFlagsFit : Cast → List (List ℕ) → Type 0
@@ -37,10 +37,10 @@ abbrev Converted : Type 0
 Converted = ℕ × (Written × ℕ)
 
 abbrev pub ConvertedFits : Converted → Type 0
-ConvertedFits p = IsWidth p.0 × (FitsValue p.0 p.1.0 × IsWidth p.1.1)
+ConvertedFits (from, (a, to)) = IsWidth from × (FitsValue from a × IsWidth to)
 
 abbrev converted_spelling : Converted → List Lexeme
-converted_spelling p = spell.type p.0 ∷ (spell.value p.1.0 ++ (word (codes "to") ∷ spell.type p.1.1 ∷ []))
+converted_spelling (from, (a, to)) = spell.type from ∷ (spell.value a ++ (word (codes "to") ∷ spell.type to ∷ []))
 
 converted_exact : Exact converted converted_spelling ConvertedFits anything
 unfolding converted
@@ -54,9 +54,9 @@ converted_exact = typed_exact (λ width. after (one (value_of width)) (λ _. ski
 abbrev pub CastFits : Cast → List (List ℕ) × Converted → Type 0
 CastFits cast p = CastFlagsFit cast p.0 × ConvertedFits p.1
 
-pub convert_exact : (cast : Cast) → Exact (convert cast) behind (Made (convert_of cast) (CastFits cast)) op_follow
+pub convert_exact : (cast : Cast) → Exact (convert cast) after_word (Made (convert_of cast) (CastFits cast)) op_follow
 unfolding convert
-convert_exact cast = made_exact (convert_of cast) (after (cast_flags cast) (λ _. converted)) (λ p. map word p.0 ++ converted_spelling p.1) (CastFits cast) anything behind op_follow
+convert_exact cast = made_exact (convert_of cast) (after (cast_flags cast) (λ _. converted)) (λ p. map word p.0 ++ converted_spelling p.1) (CastFits cast) anything after_word op_follow
     (after_exact (cast_flags cast) (λ _. converted) (map word) (CastFlagsFit cast) (cast_follow cast) (λ _ q. converted_spelling q) (λ _ q. ConvertedFits q) (λ _ q. anything q)
     (cast_flags_exact cast) (λ _ _. converted_exact) (λ a b rest f g m. type_follows cast a b.0))
     (λ p f. refl) (λ p f. refl)

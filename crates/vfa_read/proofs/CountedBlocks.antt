@@ -2,6 +2,7 @@
 use Rattle.std.proofs.Common.{◌≡◌, ℕ, suc, ◌+◌, List, [], ◌∷◌, ◌++◌, Option, Result, Ok, Err, IfOk, length, map, flat_map, drop, get_or, refl, sym, ap, ◌∙◌, append_assoc, append-nil, length-append, arith}
 use Rattle.std.proofs.lemmas.List.{drop-drop}
 use Rattle.std.proofs.lemmas.Grind.{flat_map-append}
+use Rattle.std.specs.Str.{byte}
 use Rattle.vfa_ir.specs.declared.syntax.BasicBlock.{BasicBlock}
 use Rattle.vfa_ir.specs.declared.syntax.Terminator.{Terminator}
 use Rattle.vfa_ir.specs.Lexemes.{Lexeme, mark}
@@ -129,18 +130,18 @@ others_of r first ts rest list e =
 -- the body
 pub body_counted :
     (s : Source) (at inside next : ℕ) (old entry lines : List (List ℕ)) (first : BasicBlock) (list others : List BasicBlock) →
-    drop at (all_of s) ≡ mark 123 ∷ drop inside (all_of s) → drop inside (all_of s) ≡ spell.block first ++ drop next (all_of s) →
+    drop at (all_of s) ≡ mark (byte "{") ∷ drop inside (all_of s) → drop inside (all_of s) ≡ spell.block first ++ drop next (all_of s) →
     entry ≡ old ++ block_numbers first (drop inside (line_numbers s)) ∷ [] → lines ≡ entry ++ block_lines (drop 1 list) (drop next (line_numbers s)) → list ≡ first ∷ others →
     lines ≡ old ++ block_lines list (drop (suc at) (line_numbers s))
 body_counted s at inside next old entry lines first list others brace read one more is =
     let all = line_numbers s in
     let next_one : at + 1 ≡ suc at = omega arith in
-    let start : drop inside all ≡ drop (suc at) all = moved s at inside (mark 123 ∷ []) brace ∙ drop-drop 1 at all ∙ ap (λ n. drop n all) next_one in
-    let behind = moved s inside next (spell.block first) read in
+    let start : drop inside all ≡ drop (suc at) all = moved s at inside (mark (byte "{") ∷ []) brace ∙ drop-drop 1 at all ∙ ap (λ n. drop n all) next_one in
+    let later = moved s inside next (spell.block first) read in
     let here = drop inside all in
     more ∙ ap (λ z. z ++ block_lines (drop 1 list) (drop next all)) one
     ∙ append_assoc old (block_numbers first here ∷ []) (block_lines (drop 1 list) (drop next all))
     ∙ ap (λ z. old ++ (block_numbers first here ∷ block_lines (drop 1 z) (drop next all))) is
-    ∙ ap (λ z. old ++ (block_numbers first here ∷ block_lines others z)) behind
+    ∙ ap (λ z. old ++ (block_numbers first here ∷ block_lines others z)) later
     ∙ ap (λ z. old ++ block_lines (first ∷ others) z) start
     ∙ ap (λ z. old ++ block_lines z (drop (suc at) all)) (sym is)

@@ -55,11 +55,8 @@ among-with_block scope name n =
     ∙ ap (λ b. list_any p scope.values || b) (sym (list_any-append p scope.blocks (name ∷ [])))
     ∙ sym (list_any-append p scope.values (scope.blocks ++ name ∷ []))
 
-behind_new : (seen : List (List ℕ)) (name : List ℕ) (rest : List (List ℕ)) → is_among name seen ≡ false → first_repeated seen (name ∷ rest) ≡ first_repeated (name ∷ seen) rest
-behind_new seen name rest new = ap (λ b. if b then Some name else first_repeated (name ∷ seen) rest) new
-
-pub repeated_here : (scope : Scope) (name : List ℕ) → is_among name (defined_in scope) ≡ true → IsRepeated scope (name ∷ []) (Outside.Duplicate name)
-repeated_here scope name there more = ap (λ b. if b then Some name else first_repeated (name ∷ defined_in scope) more) there
+after_new : (seen : List (List ℕ)) (name : List ℕ) (rest : List (List ℕ)) → is_among name seen ≡ false → first_repeated seen (name ∷ rest) ≡ first_repeated (name ∷ seen) rest
+after_new seen name rest new = ap (λ b. if b then Some name else first_repeated (name ∷ seen) rest) new
 
 append-nil : {X : Type 0} (xs : List X) → xs ++ [] ≡ xs
 append-nil [] = refl
@@ -69,7 +66,7 @@ append-nil (x ∷ xs) = ap (λ l. x ∷ l) (append-nil xs)
 pub value_is_new : (old new : Scope) (name : List ℕ) → is_among name (defined_in old) ≡ false → new.values ≡ old.values ++ name ∷ [] → new.blocks ≡ old.blocks
     → Left old (only_values (name ∷ [])) new no_names
 value_is_new old new name absent values blocks = record {
-  repeats = λ more. behind_new (defined_in old) name more absent
+  repeats = λ more. after_new (defined_in old) name more absent
       ∙ first_repeated-alike (name ∷ defined_in old) (defined_in new)
       (λ n. among-with_value old name n ∙ ap (is_among n) (ap (λ v. v ++ old.blocks) (sym values) ∙ ap (λ b. new.values ++ b) (sym blocks))) more;
   values = append-nil new.values ∙ values;
@@ -79,7 +76,7 @@ value_is_new old new name absent values blocks = record {
 pub block_is_new : (old new : Scope) (name : List ℕ) → is_among name (defined_in old) ≡ false → new.values ≡ old.values → new.blocks ≡ old.blocks ++ name ∷ []
     → Left old (one_block name) new no_names
 block_is_new old new name absent values blocks = record {
-  repeats = λ more. behind_new (defined_in old) name more absent
+  repeats = λ more. after_new (defined_in old) name more absent
       ∙ first_repeated-alike (name ∷ defined_in old) (defined_in new)
       (λ n. among-with_block old name n ∙ ap (is_among n) (ap (λ b. old.values ++ b) (sym blocks) ∙ ap (λ v. v ++ new.blocks) (sym values))) more;
   values = ap (λ b. b ++ []) values;
@@ -117,7 +114,7 @@ values_left old names now left h = sym (length-append now.values left.values) �
 pub blocks_left : (old : Scope) (names : Names) (now : Scope) (left : Names) → Left old names now left → length now.blocks + length left.blocks ≡ length old.blocks + length names.blocks
 blocks_left old names now left h = sym (length-append now.blocks left.blocks) ∙ ap length h.blocks ∙ length-append old.blocks names.blocks
 
--- the element at i, and those behind it
+-- the element at i, and those after it
 pub item_and_rest : {X : Type 0} (xs : List X) (i : ℕ) (x : X) → i < length xs → x ≡ get_or xs i x → drop i xs ≡ (x ∷ []) ++ drop (i + 1) xs
 item_and_rest xs i x h e =
     let k : drop (i + 1) xs ≡ drop (suc i) xs = ap (λ n. drop n xs) (add-one i) in
@@ -186,10 +183,7 @@ pub all_left : (old : Scope) (names : Names) → Left old names old names
 all_left old names = record { repeats = λ more. refl; values = refl; blocks = refl }
 
 -- all are left, in two parts
-pub parts_left : (old : Scope) (names x rest : Names) → names ≡ joined x rest → Left old names old (joined x rest)
-parts_left old names x rest e = subst (Left old names old) e (all_left old names)
-
--- what is left but for nothing behind it
+-- what is left but for nothing after it
 pub whole : (names : Names) → joined names no_names ≡ names
 whole names = λ i. record { all = append-nil names.all i; values = append-nil names.values i; blocks = append-nil names.blocks i }
 
@@ -220,8 +214,3 @@ duplicate_is ps bs (Outside.Phi _) r = r
 duplicate_is ps bs (Outside.Undefined _ _) r = r
 
 -- the results of a block: those of its phis are defined first
-pub results_left : (old mid : Scope) (xs : List PhiNode) (ys : List Instruction) → Left old (phi_names xs) mid no_names →
-    Left old (joined (phi_names xs) (instruction_names ys)) mid (joined (instruction_names ys) no_names)
-results_left old mid xs ys h =
-    let names = joined (phi_names xs) (instruction_names ys) in
-    subst (Left old names mid) (sym (whole (instruction_names ys))) (left_then old names old mid (phi_names xs) (instruction_names ys) (all_left old names) h)

@@ -1,5 +1,5 @@
 -- A reader is exact for a spelling: what it reads is spelled so and fits; what fits and is spelled so is read, whatever
--- may follow; and where it stops, the lexemes before can be completed, and no others behind change that.
+-- may follow; and where it stops, the lexemes before can be completed, and no others after change that.
 use Rattle.std.proofs.Common.{◌≡◌, ℕ, suc, Bool, true, false, not, List, [], ◌∷◌, ◌++◌, length, Option, Some, None, Result, Ok, Err, ◌⊎◌, inl, inr, ⊎_elim, refl, sym, ◌∙◌, ap, subst, append_assoc}
 use Rattle.vfa_ir.specs.Lexemes.{Lexeme}
 use Rattle.vfa_read.specs.Readers.{Reader, ◌>>=◌, given, one, nothing, after, made, next_passes, choose, skip, ended}
@@ -10,15 +10,15 @@ may follow [] = true
 may follow (l ∷ _) = follow l
 
 pub record Stops {A : Type 0} (read : Reader A) (spell : A → List Lexeme) (Fits : A → Type 0) (ts : List Lexeme) (n : ℕ) : Type 0 where
-  pub front : List Lexeme
+  pub prefix : List Lexeme
   pub back : List Lexeme
-  pub parts : ts ≡ front ++ back
+  pub parts : ts ≡ prefix ++ back
   pub left : length back ≡ n
   pub value : A
   pub fits : Fits value
   pub more : List Lexeme
-  pub viable : spell value ≡ front ++ more
-  pub firm : (b : Lexeme) (rest other : List Lexeme) → back ≡ b ∷ rest → read (front ++ (b ∷ other)) ≡ Err (suc (length other))
+  pub viable : spell value ≡ prefix ++ more
+  pub firm : (b : Lexeme) (rest other : List Lexeme) → back ≡ b ∷ rest → read (prefix ++ (b ∷ other)) ≡ Err (suc (length other))
 
 pub record Exact {A : Type 0} (read : Reader A) (spell : A → List Lexeme) (Fits : A → Type 0) (follow : A → Lexeme → Bool) : Type 0 where
   pub sound : (ts rest : List Lexeme) (x : A) → read ts ≡ Ok (x, rest) → ts ≡ spell x ++ rest
@@ -61,11 +61,11 @@ made_err (Ok x) f n e = cc
 made_err (Err m) f n e = cc
 
 -- only the first lexeme decides
-pub may_same : (follow : Lexeme → Bool) (front : List Lexeme) (b : Lexeme) (rest other : List Lexeme) → may follow (front ++ (b ∷ rest)) ≡ may follow (front ++ (b ∷ other))
+pub may_same : (follow : Lexeme → Bool) (prefix : List Lexeme) (b : Lexeme) (rest other : List Lexeme) → may follow (prefix ++ (b ∷ rest)) ≡ may follow (prefix ++ (b ∷ other))
 may_same follow [] b rest other = refl
 may_same follow (l ∷ ls) b rest other = refl
 
-pub next_same : (test : Lexeme → Bool) (front : List Lexeme) (b : Lexeme) (rest other : List Lexeme) → next_passes test (front ++ (b ∷ rest)) ≡ next_passes test (front ++ (b ∷ other))
+pub next_same : (test : Lexeme → Bool) (prefix : List Lexeme) (b : Lexeme) (rest other : List Lexeme) → next_passes test (prefix ++ (b ∷ rest)) ≡ next_passes test (prefix ++ (b ∷ other))
 next_same test [] b rest other = refl
 next_same test (l ∷ ls) b rest other = refl
 
@@ -102,11 +102,11 @@ module _ {A : Type 0} (table : Lexeme → Option A) (form : A → Lexeme) (Fits 
   one_fits (l ∷ ls) rest x e = good l x (given_ok (table l) ls rest x e).0
 
   one_stops : (ts : List Lexeme) (n : ℕ) → one table ts ≡ Err n → Stops (one table) (λ x. form x ∷ []) Fits ts n
-  one_stops [] n e = record { front = []; back = []; parts = refl; left = cc; value = some; fits = some_fits; more = form some ∷ []; viable = refl; firm = λ b rest other h. cc }
+  one_stops [] n e = record { prefix = []; back = []; parts = refl; left = cc; value = some; fits = some_fits; more = form some ∷ []; viable = refl; firm = λ b rest other h. cc }
   one_stops (l ∷ ls) n e =
       let k = given_err (table l) ls n e in
       record {
-        front = [];
+        prefix = [];
         back = l ∷ ls;
         parts = refl;
         left = k.1;
@@ -141,7 +141,7 @@ nothing_exact x = record {
   some_fits = refl;
 }
 
--- where one behind the other stops
+-- where one after the other stops
 
 module _ {A B : Type 0} (r : Reader A) (k : A → Reader B)
     (sa : A → List Lexeme) (FA : A → Type 0) (fa : A → Lexeme → Bool)
@@ -162,14 +162,14 @@ module _ {A B : Type 0} (r : Reader A) (k : A → Reader B)
       let s = er.stops ts n e in
       let second = ek s.value s.fits in
       record {
-        front = s.front;
+        prefix = s.prefix;
         back = s.back;
         parts = s.parts;
         left = s.left;
         value = (s.value, second.some);
         fits = (s.fits, second.some_fits);
         more = s.more ++ sb s.value second.some;
-        viable = ap (λ z. z ++ sb s.value second.some) s.viable ∙ append_assoc s.front s.more (sb s.value second.some);
+        viable = ap (λ z. z ++ sb s.value second.some) s.viable ∙ append_assoc s.prefix s.more (sb s.value second.some);
         firm = λ b rest other h. let g = s.firm b rest other h in rw g refl;
       }
 
@@ -181,27 +181,27 @@ module _ {A B : Type 0} (r : Reader A) (k : A → Reader B)
       let bad : k a between ≡ Err n = made_err (k a between) (λ q. ((a, q.0), q.1)) n x.then_is in
       let s = (ek a f).stops between n bad in
       record {
-        front = sa a ++ s.front;
+        prefix = sa a ++ s.prefix;
         back = s.back;
-        parts = er.sound ts between a x.is ∙ ap (λ z. sa a ++ z) s.parts ∙ sym (append_assoc (sa a) s.front s.back);
+        parts = er.sound ts between a x.is ∙ ap (λ z. sa a ++ z) s.parts ∙ sym (append_assoc (sa a) s.prefix s.back);
         left = s.left;
         value = (a, s.value);
         fits = (f, s.fits);
         more = s.more;
-        viable = ap (λ z. sa a ++ z) s.viable ∙ sym (append_assoc (sa a) s.front s.more);
+        viable = ap (λ z. sa a ++ z) s.viable ∙ sym (append_assoc (sa a) s.prefix s.more);
         firm = λ b rest other h.
-            let ended : may (fa a) (s.front ++ s.back) ≡ true = ap (may (fa a)) (sym s.parts) ∙ er.ends ts between a x.is in
-            let kept : may (fa a) (s.front ++ (b ∷ other)) ≡ true =
-            may_same (fa a) s.front b other rest ∙ ap (λ z. may (fa a) (s.front ++ z)) (sym h) ∙ ended in
-            let e = er.again a (s.front ++ (b ∷ other)) f kept in
+            let ended : may (fa a) (s.prefix ++ s.back) ≡ true = ap (may (fa a)) (sym s.parts) ∙ er.ends ts between a x.is in
+            let kept : may (fa a) (s.prefix ++ (b ∷ other)) ≡ true =
+            may_same (fa a) s.prefix b other rest ∙ ap (λ z. may (fa a) (s.prefix ++ z)) (sym h) ∙ ended in
+            let e = er.again a (s.prefix ++ (b ∷ other)) f kept in
             let g = s.firm b rest other h in
-            ap (after r k) (append_assoc (sa a) s.front (b ∷ other)) ∙ second_again a (s.front ++ (b ∷ other)) e ∙ ap (λ z. z >>= λ q. Ok ((a, q.0), q.1)) g;
+            ap (after r k) (append_assoc (sa a) s.prefix (b ∷ other)) ∙ second_again a (s.prefix ++ (b ∷ other)) e ∙ ap (λ z. z >>= λ q. Ok ((a, q.0), q.1)) g;
       }
 
   pub after_stops : (ts : List Lexeme) (n : ℕ) → after r k ts ≡ Err n → Stops (after r k) pair_spelling PairFits ts n
   after_stops ts n e = ⊎_elim (stops_first ts n) (stops_second ts n) (bind_err (r ts) _ n e)
 
--- one behind the other
+-- one after the other
 
 module _ {A B : Type 0} (r : Reader A) (k : A → Reader B)
     (sa : A → List Lexeme) (FA : A → Type 0) (fa : A → Lexeme → Bool)
@@ -335,7 +335,7 @@ module _ {A B : Type 0} (f : A → B) (r : Reader A)
   made_stops ts n e =
       let s = er.stops ts n (made_err (r ts) (λ p. (f p.0, p.1)) n e) in
       record {
-        front = s.front;
+        prefix = s.prefix;
         back = s.back;
         parts = s.parts;
         left = s.left;
@@ -368,7 +368,7 @@ module _ {A : Type 0} (r : Reader A) (spell : A → List Lexeme) (F G : A → Ty
     ends = er.ends;
     again = λ x rest g m. er.again x rest (from x g) m;
     stops = λ ts n e. let s = er.stops ts n e in record {
-      front = s.front;
+      prefix = s.prefix;
       back = s.back;
       parts = s.parts;
       left = s.left;
@@ -407,9 +407,9 @@ module _ {A : Type 0} (test : Lexeme → Bool) (r s : Reader A) (spell : A → L
       go true t = record { way = inl (t, sym (choose_first ts t) ∙ e) }
       go false t = record { way = inr (t, sym (choose_second ts t) ∙ e) }
 
-  stops_same : (ts front back : List Lexeme) (b : Lexeme) (rest other : List Lexeme) (v : Bool) → ts ≡ front ++ back → back ≡ b ∷ rest → next_passes test ts ≡ v → next_passes test (front ++ (b ∷ other)) ≡ v
-  stops_same ts front back b rest other v parts h t =
-      next_same test front b other rest ∙ ap (λ z. next_passes test (front ++ z)) (sym h) ∙ ap (next_passes test) (sym parts) ∙ t
+  stops_same : (ts prefix back : List Lexeme) (b : Lexeme) (rest other : List Lexeme) (v : Bool) → ts ≡ prefix ++ back → back ≡ b ∷ rest → next_passes test ts ≡ v → next_passes test (prefix ++ (b ∷ other)) ≡ v
+  stops_same ts prefix back b rest other v parts h t =
+      next_same test prefix b other rest ∙ ap (λ z. next_passes test (prefix ++ z)) (sym h) ∙ ap (next_passes test) (sym parts) ∙ t
 
   pub choose_exact : Exact (choose test r s) spell Either follow
   choose_exact = record {
@@ -421,7 +421,7 @@ module _ {A : Type 0} (test : Lexeme → Bool) (r s : Reader A) (spell : A → L
         (λ g. choose_second (spell x ++ rest) (others x rest g m) ∙ es.again x rest g m) f;
     stops = λ ts n e. ⊎_elim
         (λ w. let c = er.stops ts n w.1 in record {
-          front = c.front;
+          prefix = c.prefix;
           back = c.back;
           parts = c.parts;
           left = c.left;
@@ -429,10 +429,10 @@ module _ {A : Type 0} (test : Lexeme → Bool) (r s : Reader A) (spell : A → L
           fits = inl c.fits;
           more = c.more;
           viable = c.viable;
-          firm = λ b rest other h. choose_first (c.front ++ (b ∷ other)) (stops_same ts c.front c.back b rest other true c.parts h w.0) ∙ c.firm b rest other h;
+          firm = λ b rest other h. choose_first (c.prefix ++ (b ∷ other)) (stops_same ts c.prefix c.back b rest other true c.parts h w.0) ∙ c.firm b rest other h;
         })
         (λ w. let c = es.stops ts n w.1 in record {
-          front = c.front;
+          prefix = c.prefix;
           back = c.back;
           parts = c.parts;
           left = c.left;
@@ -440,7 +440,7 @@ module _ {A : Type 0} (test : Lexeme → Bool) (r s : Reader A) (spell : A → L
           fits = inr c.fits;
           more = c.more;
           viable = c.viable;
-          firm = λ b rest other h. choose_second (c.front ++ (b ∷ other)) (stops_same ts c.front c.back b rest other false c.parts h w.0) ∙ c.firm b rest other h;
+          firm = λ b rest other h. choose_second (c.prefix ++ (b ∷ other)) (stops_same ts c.prefix c.back b rest other false c.parts h w.0) ∙ c.firm b rest other h;
         })
         (chosen ts (Err n) e).way;
     some = er.some;
@@ -458,7 +458,7 @@ module _ {A : Type 0} (r : Reader A) (spell other : A → List Lexeme) (F : A �
     ends = er.ends;
     again = λ x rest f m. ap (λ z. r (z ++ rest)) (sym (same x f)) ∙ er.again x rest f m;
     stops = λ ts n e. let s = er.stops ts n e in record {
-      front = s.front;
+      prefix = s.prefix;
       back = s.back;
       parts = s.parts;
       left = s.left;
@@ -481,7 +481,7 @@ module _ {A : Type 0} (r s : Reader A) (spell : A → List Lexeme) (F : A → Ty
     ends = λ ts rest x e. er.ends ts rest x (same ts ∙ e);
     again = λ x rest f m. sym (same (spell x ++ rest)) ∙ er.again x rest f m;
     stops = λ ts n e. let c = er.stops ts n (same ts ∙ e) in record {
-      front = c.front;
+      prefix = c.prefix;
       back = c.back;
       parts = c.parts;
       left = c.left;
@@ -489,7 +489,7 @@ module _ {A : Type 0} (r s : Reader A) (spell : A → List Lexeme) (F : A → Ty
       fits = c.fits;
       more = c.more;
       viable = c.viable;
-      firm = λ b rest more h. sym (same (c.front ++ (b ∷ more))) ∙ c.firm b rest more h;
+      firm = λ b rest more h. sym (same (c.prefix ++ (b ∷ more))) ∙ c.firm b rest more h;
     };
     some = er.some;
     some_fits = er.some_fits;
@@ -514,7 +514,7 @@ module _ {A : Type 0} (r : Reader A) (spell : A → List Lexeme) (F : A → Type
     some_fits = er.some_fits;
   }
 
--- behind a lexeme that tells nothing, or before one
+-- after a lexeme that tells nothing, or before one
 
 bind_same : {A B : Type 0} (r : Result A ℕ) (f g : A → Result B ℕ) → ((x : A) → f x ≡ g x) → (r >>= f) ≡ (r >>= g)
 bind_same (Ok x) f g e = e x
@@ -632,7 +632,7 @@ module _ {A : Type 0} (test : Lexeme → Bool) (r : Reader A) (none : A) (spell 
     again = λ x rest f m. ⊎_elim (λ g. taken (spell x ++ rest) (begins x rest g) ∙ er.again x rest g m) (λ g. none_again x rest g m) f;
     stops = λ ts n e. ⊎_elim
         (λ w. let c = er.stops ts n w.1 in record {
-          front = c.front;
+          prefix = c.prefix;
           back = c.back;
           parts = c.parts;
           left = c.left;
@@ -641,7 +641,7 @@ module _ {A : Type 0} (test : Lexeme → Bool) (r : Reader A) (none : A) (spell 
           more = c.more;
           viable = c.viable;
           firm = λ b rest other h.
-              taken (c.front ++ (b ∷ other)) (next_same test c.front b other rest ∙ ap (λ z. next_passes test (c.front ++ z)) (sym h) ∙ ap (next_passes test) (sym c.parts) ∙ w.0)
+              taken (c.prefix ++ (b ∷ other)) (next_same test c.prefix b other rest ∙ ap (λ z. next_passes test (c.prefix ++ z)) (sym h) ∙ ap (next_passes test) (sym c.parts) ∙ w.0)
               ∙ c.firm b rest other h;
         })
         (λ w. let no = w.1 in cc)
@@ -650,7 +650,7 @@ module _ {A : Type 0} (test : Lexeme → Bool) (r : Reader A) (none : A) (spell 
     some_fits = inl er.some_fits;
   }
 
--- one behind the other, where what may follow both hangs on both
+-- one after the other, where what may follow both hangs on both
 
 module _ {A B : Type 0} (r : Reader A) (k : A → Reader B)
     (sa : A → List Lexeme) (FA : A → Type 0) (fa : A → Lexeme → Bool)
@@ -689,8 +689,8 @@ module _ {A B : Type 0} (r : Reader A) (k : A → Reader B)
   with_ends ts rest p e =
       let x = parts_of ts rest p e in
       let g = er.fits ts x.between p.0 x.first_is in
-      let behind = (ek p.0 g).sound x.between rest p.1 x.second_is in
-      both p.0 p.1 rest (ap (may (fa p.0)) (sym behind) ∙ er.ends ts x.between p.0 x.first_is) ((ek p.0 g).ends x.between rest p.1 x.second_is)
+      let later = (ek p.0 g).sound x.between rest p.1 x.second_is in
+      both p.0 p.1 rest (ap (may (fa p.0)) (sym later) ∙ er.ends ts x.between p.0 x.first_is) ((ek p.0 g).ends x.between rest p.1 x.second_is)
 
   with_stops : (ts : List Lexeme) (n : ℕ) → after r k ts ≡ Err n → Stops (after r k) (λ p. sa p.0 ++ sb p.0 p.1) (λ p. FA p.0 × FB p.0 p.1) ts n
   with_stops = after_stops r k sa FA fa sb FB fb er ek

@@ -1,6 +1,7 @@
 -- Reading the header of a function is exact.
 use Rattle.std.proofs.Common.{◌≡◌, ℕ, Bool, true, false, not, ◌&&◌, List, [], ◌∷◌, ◌++◌, map, Option, Some, None, ◌⊎◌, inl, inr, All, IsTrue, codes, refl, sym, ap, subst}
 use Rattle.std.specs.List.{join_by}
+use Rattle.std.specs.Str.{byte}
 use Rattle.vfa_ir.specs.declared.syntax.Parameter.{Parameter}
 use Rattle.vfa_ir.specs.Lexemes.{Lexeme, local, global, mark, word}
 use Rattle.vfa_ir.specs.Grammar.{IsWidth, FitsParameter}
@@ -125,13 +126,13 @@ abbrev pub parameters_follow : List Parameter → Lexeme → Bool
 parameters_follow = commas_follow parameter spell.parameter FitsParameter parameter_follow parameter_exact mark_follows is_any_word type_begins
 
 abbrev joined : List Parameter → List Lexeme
-joined = join_by spell.parameter (mark 44 ∷ [])
+joined = join_by spell.parameter (mark (byte ",") ∷ [])
 
 pub parameters_exact : Exact parameters joined (All FitsParameter) parameters_follow
 unfolding parameters
 parameters_exact = comma_list_exact parameter spell.parameter FitsParameter parameter_follow parameter_exact mark_follows is_any_word type_begins
 
-closes_parameters : (ps : List Parameter) → parameters_follow ps (mark 41) ≡ true
+closes_parameters : (ps : List Parameter) → parameters_follow ps (mark (byte ")")) ≡ true
 closes_parameters = commas_close parameter spell.parameter FitsParameter parameter_follow parameter_exact mark_follows is_any_word type_begins 41 refl refl
 
 -- the header
@@ -146,17 +147,18 @@ lead_type : (ws : List (List ℕ)) (w : ℕ) → IsWidth w → lead_follow ws (s
 lead_type ws w h = and_both (not (is_word_among lead_words (spell.type w))) (follow_last {A = List ℕ} anything ws (spell.type w)) (ap not (type_no_lead w h)) (last_any ws (spell.type w))
 
 abbrev pub HeaderFits : Header → Type 0
-HeaderFits p = LeadFits p.0 × (IsWidth p.1.0 × (Unit {0} × All FitsParameter p.1.1.1))
+HeaderFits (lead, (width, (_, parameters))) = LeadFits lead × (IsWidth width × (Unit {0} × All FitsParameter parameters))
 
 abbrev pub header_spelling : Header → List Lexeme
-header_spelling p = word (codes "define") ∷ (map word p.0 ++ (spell.type p.1.0 ∷ global p.1.1.0 ∷ mark 40 ∷ (joined p.1.1.1 ++ (mark 41 ∷ []))))
+header_spelling (lead, (width, (name, parameters))) =
+    word (codes "define") ∷ (map word lead ++ (spell.type width ∷ global name ∷ mark (byte "(") ∷ (joined parameters ++ (mark (byte ")") ∷ []))))
 
 abbrev closed : Reader (List Parameter)
-closed = skip (the_mark 40) (ended parameters (the_mark 41))
+closed = skip (the_mark (byte "(")) (ended parameters (the_mark (byte ")")))
 
-closed_exact : Exact closed (λ ps. mark 40 ∷ (joined ps ++ (mark 41 ∷ []))) (All FitsParameter) anything
-closed_exact = skip_exact (the_mark 40) (mark 40) (ended parameters (the_mark 41)) (λ ps. joined ps ++ (mark 41 ∷ [])) (All FitsParameter) anything (mark_exact 40)
-    (ended_exact parameters (the_mark 41) (mark 41) joined (All FitsParameter) parameters_follow parameters_exact (mark_exact 41) (λ ps f. closes_parameters ps))
+closed_exact : Exact closed (λ ps. mark (byte "(") ∷ (joined ps ++ (mark (byte ")") ∷ []))) (All FitsParameter) anything
+closed_exact = skip_exact (the_mark (byte "(")) (mark (byte "(")) (ended parameters (the_mark (byte ")"))) (λ ps. joined ps ++ (mark (byte ")") ∷ [])) (All FitsParameter) anything (mark_exact (byte "("))
+    (ended_exact parameters (the_mark (byte ")")) (mark (byte ")")) joined (All FitsParameter) parameters_follow parameters_exact (mark_exact (byte ")")) (λ ps f. closes_parameters ps))
 
 abbrev Named : Type 0
 Named = ℕ × (List ℕ × List Parameter)
@@ -168,12 +170,12 @@ abbrev named : Reader Named
 named = after (one type_of) (λ _. after (one global_name) (λ _. closed))
 
 abbrev named_spelling : Named → List Lexeme
-named_spelling q = spell.type q.0 ∷ global q.1.0 ∷ mark 40 ∷ (joined q.1.1 ++ (mark 41 ∷ []))
+named_spelling q = spell.type q.0 ∷ global q.1.0 ∷ mark (byte "(") ∷ (joined q.1.1 ++ (mark (byte ")") ∷ []))
 
 named_exact : Exact named named_spelling NamedFits anything
 named_exact = after_exact (one type_of) (λ _. after (one global_name) (λ _. closed)) (λ w. spell.type w ∷ []) IsWidth anything
-    (λ _ q. global q.0 ∷ mark 40 ∷ (joined q.1 ++ (mark 41 ∷ []))) (λ _ q. Unit {0} × All FitsParameter q.1) (λ _ q. anything q) type_exact
-    (λ _ _. after_exact (one global_name) (λ _. closed) (λ x. global x ∷ []) (λ _. Unit {0}) anything (λ _ ps. mark 40 ∷ (joined ps ++ (mark 41 ∷ []))) (λ _ ps. All FitsParameter ps) (λ _ ps. anything ps)
+    (λ _ q. global q.0 ∷ mark (byte "(") ∷ (joined q.1 ++ (mark (byte ")") ∷ []))) (λ _ q. Unit {0} × All FitsParameter q.1) (λ _ q. anything q) type_exact
+    (λ _ _. after_exact (one global_name) (λ _. closed) (λ x. global x ∷ []) (λ _. Unit {0}) anything (λ _ ps. mark (byte "(") ∷ (joined ps ++ (mark (byte ")") ∷ []))) (λ _ ps. All FitsParameter ps) (λ _ ps. anything ps)
     global_exact (λ _ _. closed_exact) (λ a b rest f g m. refl))
     (λ a b rest f g m. refl)
 

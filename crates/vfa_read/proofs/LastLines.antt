@@ -1,14 +1,12 @@
 -- The last token is the one whose line is the last.
-use Rattle.std.proofs.Common.{◌≡◌, ◌-◌, ℕ, zero, suc, List, [], ◌∷◌, length, Option, Some, None, slice_get, slice_range, refl, sym, ap, ◌∙◌, arith}
+use Rattle.std.proofs.Common.{◌≡◌, ◌-◌, ℕ, zero, suc, List, [], ◌∷◌, length, Option, Some, slice_get, slice_range, refl, sym, ap, ◌∙◌, arith}
 use Rattle.vfa_ir.specs.declared.tokens.Token.{Token}
 use Rattle.vfa_ir.specs.Reads.{last_line}
 use Rattle.vfa_ir.specs.TokenLexemes.{bytes_between, end_of_last}
+use Rattle.vfa_read.proofs.Outcomes.{none_some}
 
 some_token : {t u : Token} → ◌≡◌ {A = Option Token} (Some t) (Some u) → t ≡ u
 some_token e = cc
-
-none_some : {t : Token} → ◌≡◌ {A = Option Token} None (Some t) → ⊥
-none_some e = cc
 
 at_last : (n : ℕ) (ts : List Token) (t : Token) → length ts ≡ suc n → slice_get ts n ≡ Some t → t.line ≡ last_line ts
 at_last n [] t size e = absurd (omega (arith, size))

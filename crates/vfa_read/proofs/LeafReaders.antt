@@ -1,5 +1,5 @@
 -- Reading one token is exact.
-use Rattle.std.proofs.Common.{◌≡◌, ℕ, Bool, true, false, not, ◌&&◌, ◌==◌, cond, List, [], ◌∷◌, ◌⊎◌, inl, inr, ⊎_elim, Option, Some, None, option_map, pow_pos, ◌^◌, IsTrue, bytes_eq, codes, refl, sym, ap, ◌∙◌, subst, arith, eqb-true}
+use Rattle.std.proofs.Common.{◌≡◌, ℕ, Bool, true, false, not, ◌&&◌, ◌==◌, cond, List, [], ◌∷◌, ◌⊎◌, inl, inr, ⊎_elim, Option, Some, None, option_map, pow_pos, ◌^◌, IsTrue, bytes_eq, codes, refl, sym, ap, ◌∙◌, subst, arith, eqb-true, lt-ltb}
 use Rattle.std.proofs.lemmas.Bool.Decides.{nat_tests}
 use Rattle.vfa_ir.specs.declared.syntax.Literal.{Literal}
 use Rattle.vfa_ir.specs.declared.syntax.Written.{Written}
@@ -13,7 +13,7 @@ use Rattle.vfa_read.specs.Readers.{one}
 use Rattle.vfa_read.specs.Tables.{the_mark, the_word, local_name, global_name, label_name, group_digits, metadata_kind, metadata_node, keyword_in, type_of, literal_word, literal_of, value_of, fits_number}
 use Rattle.vfa_read.proofs.Exact.{Exact, one_exact, spelled_exact, anything}
 use Rattle.vfa_read.proofs.Words.{same_text, same_itself, and_parts, not_parts, tested, width_is, is_width}
-use Rattle.vfa_read.proofs.NumberRanges.{fits_is, is_fits, lt_true}
+use Rattle.vfa_read.proofs.NumberRanges.{fits_is, is_fits}
 
 -- a name of each kind
 
@@ -86,7 +86,7 @@ mark_is : (c : ℕ) (l : Lexeme) (x : Unit {0}) → the_mark c l ≡ Some x → 
 mark_is c (mark d) x e = ap mark (eqb-true d c (tested (d == c) tt x e).0)
 mark_is c _ x e = cc
 
-same_number : (c : ℕ) → (c == c) ≡ true
+pub same_number : (c : ℕ) → (c == c) ≡ true
 same_number c = grind (arith, nat_tests)
 
 mark_again : (c : ℕ) (x : Unit {0}) → the_mark c (mark c) ≡ Some x
@@ -164,7 +164,7 @@ literal_spelling (Literal.Boolean false) = refl
 literal_spelling (Literal.Number text) = refl
 
 zero_fits : (w : ℕ) → IsWidth w → FitsLiteral w (Literal.Number (codes "0"))
-zero_fits w h = fits_is w (codes "0") (let p = pow_pos w in let e = lt_true 0 (2 ^ w) p in rw e refl)
+zero_fits w h = fits_is w (codes "0") (let p = pow_pos w in let e = lt-ltb 0 (2 ^ w) p in rw e refl)
 
 pub literal_exact : (w : ℕ) → IsWidth w → Exact (one (literal_of w)) literal (FitsLiteral w) anything
 literal_exact w h = spelled_exact (one (literal_of w)) (λ x. literal_form x ∷ []) literal (FitsLiteral w) anything

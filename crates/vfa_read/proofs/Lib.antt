@@ -29,6 +29,7 @@ mod NameCounts
 mod NameLaws
 mod NumberRanges
 mod OperationReaders
+mod Outcomes
 mod Places
 mod Ranges
 mod Reasons

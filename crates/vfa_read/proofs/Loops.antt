@@ -4,25 +4,25 @@ use Rattle.vfa_ir.specs.Lexemes.{Lexeme}
 use Rattle.vfa_read.specs.declared.stops.Stop.{Stop}
 use Rattle.vfa_read.specs.Readers.{◌>>=◌, Gives}
 
-abbrev pub with_front : {A : Type 0} → List A → Result (List A × List Lexeme) ℕ → Result (List A × List Lexeme) ℕ
-with_front front read = read >>= λ q. Ok (front ++ q.0, q.1)
+abbrev pub with_prefix : {A : Type 0} → List A → Result (List A × List Lexeme) ℕ → Result (List A × List Lexeme) ℕ
+with_prefix prefix read = read >>= λ q. Ok (prefix ++ q.0, q.1)
 
-pub front_none : {A : Type 0} (read : Result (List A × List Lexeme) ℕ) → with_front [] read ≡ read
-front_none (Ok q) = refl
-front_none (Err n) = refl
+pub prefix_none_read : {A : Type 0} (read : Result (List A × List Lexeme) ℕ) → with_prefix [] read ≡ read
+prefix_none_read (Ok q) = refl
+prefix_none_read (Err n) = refl
 
-pub front_done : {A : Type 0} (front : List A) (ts : List Lexeme) (read : Result (List A × List Lexeme) ℕ) → read ≡ Ok ([], ts) → with_front front read ≡ Ok (front, ts)
-front_done front ts read e = ap (with_front front) e ∙ ap (λ z. Ok (z, ts)) (append-nil front)
+pub prefix_done : {A : Type 0} (prefix : List A) (ts : List Lexeme) (read : Result (List A × List Lexeme) ℕ) → read ≡ Ok ([], ts) → with_prefix prefix read ≡ Ok (prefix, ts)
+prefix_done prefix ts read e = ap (with_prefix prefix) e ∙ ap (λ z. Ok (z, ts)) (append-nil prefix)
 
-front_more : {A : Type 0} (front : List A) (x : A) (rest : Result (List A × List Lexeme) ℕ) → with_front front (rest >>= λ q. Ok (x ∷ q.0, q.1)) ≡ with_front (front ++ (x ∷ [])) rest
-front_more front x (Ok q) = ap (λ z. Ok (z, q.1)) (sym (append_assoc front (x ∷ []) q.0))
-front_more front x (Err n) = refl
+prefix_more : {A : Type 0} (prefix : List A) (x : A) (rest : Result (List A × List Lexeme) ℕ) → with_prefix prefix (rest >>= λ q. Ok (x ∷ q.0, q.1)) ≡ with_prefix (prefix ++ (x ∷ [])) rest
+prefix_more prefix x (Ok q) = ap (λ z. Ok (z, q.1)) (sym (append_assoc prefix (x ∷ []) q.0))
+prefix_more prefix x (Err n) = refl
 
-pub front_item : {A : Type 0} (front : List A) (x : A) (read rest : Result (List A × List Lexeme) ℕ) → read ≡ (rest >>= λ q. Ok (x ∷ q.0, q.1)) → with_front front read ≡ with_front (front ++ (x ∷ [])) rest
-front_item front x read rest e = ap (with_front front) e ∙ front_more front x rest
+pub prefix_item : {A : Type 0} (prefix : List A) (x : A) (read rest : Result (List A × List Lexeme) ℕ) → read ≡ (rest >>= λ q. Ok (x ∷ q.0, q.1)) → with_prefix prefix read ≡ with_prefix (prefix ++ (x ∷ [])) rest
+prefix_item prefix x read rest e = ap (with_prefix prefix) e ∙ prefix_more prefix x rest
 
-pub front_bad : {A : Type 0} (front : List A) (n : ℕ) (read : Result (List A × List Lexeme) ℕ) → read ≡ Err n → with_front front read ≡ Err n
-front_bad front n read e = ap (with_front front) e
+pub prefix_bad : {A : Type 0} (prefix : List A) (n : ℕ) (read : Result (List A × List Lexeme) ℕ) → read ≡ Err n → with_prefix prefix read ≡ Err n
+prefix_bad prefix n read e = ap (with_prefix prefix) e
 
 -- what stops an item stops what it stands in
 pub stops_through : {A B : Type 0} (all : List Lexeme) (e : Stop) (item : Result (A × List Lexeme) ℕ) (read : Result (B × List Lexeme) ℕ) → ((n : ℕ) → item ≡ Err n → read ≡ Err n) → Gives {A = A} all (Err e) item → Gives {A = B} all (Err e) read

@@ -108,7 +108,7 @@ module _ {S A : Type 0} (starts : Lexeme → Bool) (item : S → Reader A) (step
   many_bad s [] k t e = cc
   many_bad s (l ∷ ls) k t e = repeated_bad (length ls) s (l ∷ ls) k t e
 
-  -- the next turn: no item, a bad one, or one and those behind it
+  -- the next turn: no item, a bad one, or one and those after it
   data Turn (s : S) (ts : List Lexeme) (o : Rest) : Type 0 where
     done : next_passes starts ts ≡ false → Ok ([], ts) ≡ o → Turn s ts o
     bad : (k : ℕ) → next_passes starts ts ≡ true → item s ts ≡ Err k → Err k ≡ o → Turn s ts o
@@ -125,7 +125,7 @@ module _ {S A : Type 0} (starts : Lexeme → Bool) (item : S → Reader A) (step
       by_test true t = by_item (item s ts) t refl
       by_test false t = done t (sym (many_done s ts t) ∙ e)
 
-  -- what was read: nothing, or an item and those behind it
+  -- what was read: nothing, or an item and those after it
   data Found (s : S) (ts rest : List Lexeme) : List A → Type 0 where
     none : next_passes starts ts ≡ false → ts ≡ rest → Found s ts rest []
     some : {x : A} {xs : List A} (between : List Lexeme) → next_passes starts ts ≡ true → item s ts ≡ Ok (x, between) →
@@ -215,44 +215,44 @@ module _ {S A : Type 0} (starts : Lexeme → Bool) (item : S → Reader A) (step
   abbrev StopsMany : S → List Lexeme → ℕ → Type 0
   StopsMany s ts n = Stops (many starts item step s) (flat_map spell) (FitsFrom Fits step s) ts n
 
-  same_test : (ts front back : List Lexeme) (b : Lexeme) (rest other : List Lexeme) → ts ≡ front ++ back → back ≡ b ∷ rest → next_passes starts ts ≡ true → next_passes starts (front ++ (b ∷ other)) ≡ true
-  same_test ts front back b rest other parts h t =
-      next_same starts front b other rest ∙ ap (λ z. next_passes starts (front ++ z)) (sym h) ∙ ap (next_passes starts) (sym parts) ∙ t
+  same_test : (ts prefix back : List Lexeme) (b : Lexeme) (rest other : List Lexeme) → ts ≡ prefix ++ back → back ≡ b ∷ rest → next_passes starts ts ≡ true → next_passes starts (prefix ++ (b ∷ other)) ≡ true
+  same_test ts prefix back b rest other parts h t =
+      next_same starts prefix b other rest ∙ ap (λ z. next_passes starts (prefix ++ z)) (sym h) ∙ ap (next_passes starts) (sym parts) ∙ t
 
   stops_item : (s : S) (ts : List Lexeme) (n : ℕ) → next_passes starts ts ≡ true → item s ts ≡ Err n → StopsMany s ts n
   stops_item s ts n t e =
       let c = (ei s).stops ts n e in
       record {
-        front = c.front;
+        prefix = c.prefix;
         back = c.back;
         parts = c.parts;
         left = c.left;
         value = c.value ∷ [];
         fits = (c.fits, tt);
         more = c.more ++ [];
-        viable = ap (λ z. z ++ []) c.viable ∙ append_assoc c.front c.more [];
-        firm = λ b rest other h. many_bad s (c.front ++ (b ∷ other)) (suc (length other)) (same_test ts c.front c.back b rest other c.parts h t) (c.firm b rest other h);
+        viable = ap (λ z. z ++ []) c.viable ∙ append_assoc c.prefix c.more [];
+        firm = λ b rest other h. many_bad s (c.prefix ++ (b ∷ other)) (suc (length other)) (same_test ts c.prefix c.back b rest other c.parts h t) (c.firm b rest other h);
       }
 
   stops_later : (s : S) (ts between : List Lexeme) (x : A) (n : ℕ) → item s ts ≡ Ok (x, between) → StopsMany (step s x) between n → StopsMany s ts n
   stops_later s ts between x n i c =
       let f = (ei s).fits ts between x i in
       record {
-        front = spell x ++ c.front;
+        prefix = spell x ++ c.prefix;
         back = c.back;
-        parts = (ei s).sound ts between x i ∙ ap (λ z. spell x ++ z) c.parts ∙ sym (append_assoc (spell x) c.front c.back);
+        parts = (ei s).sound ts between x i ∙ ap (λ z. spell x ++ z) c.parts ∙ sym (append_assoc (spell x) c.prefix c.back);
         left = c.left;
         value = x ∷ c.value;
         fits = (f, c.fits);
         more = c.more;
-        viable = ap (λ z. spell x ++ z) c.viable ∙ sym (append_assoc (spell x) c.front c.more);
+        viable = ap (λ z. spell x ++ z) c.viable ∙ sym (append_assoc (spell x) c.prefix c.more);
         firm = λ b rest other h.
-            let ended : may (follow x) (c.front ++ c.back) ≡ true = ap (may (follow x)) (sym c.parts) ∙ (ei s).ends ts between x i in
-            let kept : may (follow x) (c.front ++ (b ∷ other)) ≡ true =
-            may_same (follow x) c.front b other rest ∙ ap (λ z. may (follow x) (c.front ++ z)) (sym h) ∙ ended in
-            let behind : List Lexeme = c.front ++ (b ∷ other) in
-            ap (many starts item step s) (append_assoc (spell x) c.front (b ∷ other))
-            ∙ many_item s (spell x ++ behind) behind x (begins_passes starts (spell x) behind (begins s x f)) ((ei s).again x behind f kept)
+            let ended : may (follow x) (c.prefix ++ c.back) ≡ true = ap (may (follow x)) (sym c.parts) ∙ (ei s).ends ts between x i in
+            let kept : may (follow x) (c.prefix ++ (b ∷ other)) ≡ true =
+            may_same (follow x) c.prefix b other rest ∙ ap (λ z. may (follow x) (c.prefix ++ z)) (sym h) ∙ ended in
+            let later : List Lexeme = c.prefix ++ (b ∷ other) in
+            ap (many starts item step s) (append_assoc (spell x) c.prefix (b ∷ other))
+            ∙ many_item s (spell x ++ later) later x (begins_passes starts (spell x) later (begins s x f)) ((ei s).again x later f kept)
             ∙ ap (before x) (c.firm b rest other h);
       }
 

@@ -21,7 +21,7 @@ passes n m h = grind (arith, h)
 pub passes_not : (n m : ℕ) → m ≤ n → false ≡ nat_lt n m
 passes_not n m h = grind (arith, h)
 
--- what stands behind the element at i, and past the end
+-- what stands after the element at i, and past the end
 pub step-flat_map : {X Y : Type 0} (f : X → List Y) (xs : List X) (i : ℕ) (x : X) → i < length xs → x ≡ get_or xs i x
     → flat_map f (drop i xs) ≡ f x ++ flat_map f (drop (i + 1) xs)
 step-flat_map f xs i x h e =

@@ -3,10 +3,14 @@ use Rattle.std.proofs.Common.{◌≡◌, ℕ, Bool, true, false, ◌||◌, List,
 use Rattle.std.specs.List.{AllByRecursion, IsDistinct, join_by}
 use Rattle.std.specs.Prelude.{⊤}
 use Rattle.std.proofs.lemmas.List.Elements.{All-nil, recursion_from_All, All-from_recursion}
+use Rattle.std.specs.Str.{byte}
 use Rattle.vfa_ir.specs.declared.operations.Bin.{Bin}
 use Rattle.vfa_ir.specs.declared.operations.Cast.{Cast}
+use Rattle.vfa_ir.specs.declared.operations.Over.{Over}
+use Rattle.vfa_ir.specs.declared.operations.Pred.{Pred}
 use Rattle.vfa_ir.specs.declared.syntax.Operation.{Operation}
 use Rattle.vfa_ir.specs.declared.syntax.Argument.{Argument}
+use Rattle.vfa_ir.specs.declared.syntax.Written.{Written}
 use Rattle.vfa_ir.specs.declared.syntax.CallWords.{CallWords}
 use Rattle.vfa_ir.specs.Lexemes.{Lexeme, global, group, mark, word}
 use Rattle.vfa_ir.specs.Grammar.{AreWords, IsWidth, FitsFlags, FitsOperation}
@@ -22,7 +26,7 @@ use Rattle.vfa_read.proofs.BinaryReaders.{OptionalFits, WrapFits, FlagsFit, Bina
 use Rattle.vfa_read.proofs.CallReaders.{CalleeFits, CalleeStands, OverFits, PlainFits, call_exact, words_spelling}
 use Rattle.vfa_read.proofs.CastReaders.{CastFits, CastFlagsFit, convert_exact}
 use Rattle.vfa_read.proofs.Exact.{Exact, Made, anything, may_anything, after_exact, made_exact, skip_exact, fits_exact}
-use Rattle.vfa_read.proofs.FormReaders.{any_sign, op_follow, behind, ComparedFits, compare_exact, SelectedFits, select_exact, TypedFits, freeze_exact, ExtractedFits, extract_exact}
+use Rattle.vfa_read.proofs.FormReaders.{Two, any_sign, op_follow, after_word, ComparedFits, compare_exact, SelectedFits, select_exact, TypedFits, freeze_exact, ExtractedFits, extract_exact}
 use Rattle.vfa_read.proofs.LeafReaders.{keyword_exact, word_exact}
 use Rattle.vfa_read.proofs.Words.{same_text, same_itself}
 
@@ -33,7 +37,7 @@ form_each (Form.Binary Bin.Add) = refl
 form_each (Form.Convert Cast.Zext) = refl
 form_each _ = refl
 
--- what stands behind each
+-- what stands after each
 
 abbrev pub CallFits : Option (List ℕ) → Operation → Type 0
 CallFits m op = Made (over_of m) OverFits op ⊎ Made last_of (PlainFits m) op
@@ -42,7 +46,7 @@ abbrev rest_spelling : Form → Operation → List Lexeme
 rest_spelling Form.Call op = words_spelling op
 rest_spelling Form.Tail op = word (codes "call") ∷ words_spelling op
 rest_spelling Form.Notail op = word (codes "call") ∷ words_spelling op
-rest_spelling _ op = behind op
+rest_spelling _ op = after_word op
 
 abbrev RestFits : Form → Operation → Type 0
 RestFits (Form.Binary bin) = Made (binary_of bin) (BinaryFits bin)
@@ -78,8 +82,8 @@ MarkedSpelled m op = spell.operation op ≡ spell.optional_word m ++ (word (code
 -- the words of a call stand before the type of its result
 pub other_spelled : (c : CallWords) (attributes : List (List ℕ)) (width : Option ℕ) (name : List ℕ) (xs : List Argument) → MarkedSpelled c.marker (Operation.Call c attributes width name xs)
 other_spelled c attributes width name xs =
-    let behind : List Lexeme = global name ∷ mark 40 ∷ (join_by spell.argument (mark 44 ∷ []) xs ++ (mark 41 ∷ map group c.groups)) in
-    ap (λ z. spell.optional_word c.marker ++ (word (codes "call") ∷ z)) (append_assoc (map word attributes) (spell.result_type width ∷ []) behind)
+    let later : List Lexeme = global name ∷ mark (byte "(") ∷ (join_by spell.argument (mark (byte ",") ∷ []) xs ++ (mark (byte ")") ∷ map group c.groups)) in
+    ap (λ z. spell.optional_word c.marker ++ (word (codes "call") ∷ z)) (append_assoc (map word attributes) (spell.result_type width ∷ []) later)
 
 callee_spelled : (m : Option (List ℕ)) (words : List (List ℕ)) (w : ℕ) (c : Callee) (op : Operation) → CalleeFits m words w c op → MarkedSpelled m op
 callee_spelled m words w (Callee.Known (Intrinsic.Two fun)) op f = subst (MarkedSpelled m) f.is refl
@@ -287,16 +291,33 @@ plain_to m op k p =
     let n = p.fits.1 in
     subst DefiningFits p.is (subst DefiningFits n.is (callee_to m p.from.0 n.from.0 n.from.1.0 n.from.1.1 k p.fits.0 n.fits.0 n.fits.1.0 n.fits.1.1))
 
+over_to : (m : Option (List ℕ)) (p : ℕ × (Over × (Two × List (List ℕ)))) → MarkerFits m → OverFits p → FitsOperation (over_of m p)
+over_to m (width, (over, ((a, b), digits))) marker (wide, (_, ((first, second), _))) =
+    (record { marker = marker }, record { of_width = wide; first = first; second = second })
+
 call_to : (m : Option (List ℕ)) (op : Operation) → MarkerFits m → CallFits m op → DefiningFits op
 call_to m op k f = ⊎_elim
-    (λ o. subst DefiningFits o.is ((record { marker = k }, record { of_width = o.fits.0; first = o.fits.1.1.0.0; second = o.fits.1.1.0.1 }), tt))
+    (λ o. subst DefiningFits o.is (over_to m o.from k o.fits, tt))
     (λ p. plain_to m op k p) f
 
+binary_to : (bin : Bin) (p : List (List ℕ) × (ℕ × Two)) → BinaryFits bin p → FitsOperation (binary_of bin p)
+binary_to bin (words, (width, (a, b))) (known, (wide, (first, second))) =
+    (flag_fits_to bin words known, record { of_width = wide; first = first; second = second })
+
+compare_to : (p : Bool × (Pred × (ℕ × Two))) → ComparedFits p → FitsOperation (compare_of p)
+compare_to (samesign, (pred, (width, (a, b)))) (_, (_, (wide, (first, second)))) = record { of_width = wide; first = first; second = second }
+
+select_to : (p : Written × (ℕ × Two)) → SelectedFits p → FitsOperation (select_of p)
+select_to (c, (width, (a, b))) (condition, (wide, (first, second))) = (condition, record { of_width = wide; first = first; second = second })
+
+convert_to : (cast : Cast) (p : List (List ℕ) × (ℕ × (Written × ℕ))) → CastFits cast p → FitsOperation (convert_of cast p)
+convert_to cast (words, (from, (a, to))) (known, (wide, (value, to_wide))) = (cast_fits_to cast words known, wide, value, to_wide)
+
 form_to : (f : Form) (op : Operation) → RestFits f op → DefiningFits op
-form_to (Form.Binary bin) op m = subst DefiningFits m.is ((flag_fits_to bin m.from.0 m.fits.0, record { of_width = m.fits.1.0; first = m.fits.1.1.0; second = m.fits.1.1.1 }), tt)
-form_to Form.Compare op m = subst DefiningFits m.is (record { of_width = m.fits.1.1.0; first = m.fits.1.1.1.0; second = m.fits.1.1.1.1 }, tt)
-form_to Form.Select op m = subst DefiningFits m.is ((m.fits.0, record { of_width = m.fits.1.0; first = m.fits.1.1.0; second = m.fits.1.1.1 }), tt)
-form_to (Form.Convert cast) op m = subst DefiningFits m.is ((cast_fits_to cast m.from.0 m.fits.0, m.fits.1.0, m.fits.1.1.0, m.fits.1.1.1), tt)
+form_to (Form.Binary bin) op m = subst DefiningFits m.is (binary_to bin m.from m.fits, tt)
+form_to Form.Compare op m = subst DefiningFits m.is (compare_to m.from m.fits, tt)
+form_to Form.Select op m = subst DefiningFits m.is (select_to m.from m.fits, tt)
+form_to (Form.Convert cast) op m = subst DefiningFits m.is (convert_to cast m.from m.fits, tt)
 form_to Form.Freeze op m = subst DefiningFits m.is (m.fits, tt)
 form_to Form.Extract op m = subst DefiningFits m.is ((m.fits.0, m.fits.1.1), tt)
 form_to Form.Call op m = call_to None op tt m

@@ -2,6 +2,7 @@
 use Rattle.std.proofs.Common.{◌≡◌, ℕ, ◌-◌, ◌≤◌, ◌<◌, ◌^◌, Bool, true, false, ◌&&◌, ◌==◌, List, ◌∷◌, ◌⊎◌, ⊎_elim, refl, ap, ◌∙◌, arith, pow_mono, nat_lt, nat_le}
 use Rattle.std.specs.Str.Parse.{digits_value}
 use Rattle.std.proofs.lemmas.Bool.Decides.{nat_tests}
+use Rattle.std.specs.Str.{byte}
 use Rattle.vfa_ir.specs.Words.{is_digits}
 use Rattle.vfa_read.specs.Tables.{fits_number}
 
@@ -31,5 +32,5 @@ no_number_lt digits w h n = ⊎_elim
 pub minus_no_number : (width : ℕ) (digits : List ℕ) → width ≤ 128 → NoNumber digits → fits_number width (45 ∷ digits) ≡ false
 minus_no_number width digits h n = no_number_le digits (width - 1) (omega arith) n
 
-pub plain_no_number : (width c : ℕ) (digits : List ℕ) → (c == 45) ≡ false → width ≤ 128 → NoNumber (c ∷ digits) → fits_number width (c ∷ digits) ≡ false
+pub plain_no_number : (width c : ℕ) (digits : List ℕ) → (c == byte "-") ≡ false → width ≤ 128 → NoNumber (c ∷ digits) → fits_number width (c ∷ digits) ≡ false
 plain_no_number width c digits e h n = rw e (no_number_lt (c ∷ digits) width h n)

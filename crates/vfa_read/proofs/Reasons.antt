@@ -15,6 +15,7 @@ use Rattle.vfa_ir.specs.TextLines.{lines_of}
 use Rattle.vfa_ir.specs.TokenLexemes.{lexemes}
 use Rattle.vfa_read.specs.declared.reading.ReadFunction.{ReadFunction}
 use Rattle.vfa_read.proofs.SentenceReader.{one_sentence}
+use Rattle.vfa_read.proofs.Outcomes.{none_some, some_same}
 
 -- where a list of lexemes stops being a sentence
 
@@ -24,8 +25,8 @@ take_shorter (suc p) zero xs h = absurd (omega (arith, h))
 take_shorter (suc p) (suc q) [] h = refl
 take_shorter (suc p) (suc q) (x ∷ xs) h = ap (λ z. x ∷ z) (take_shorter p q xs (omega (arith, h)))
 
-begins_shorter : (front more : List Lexeme) → BeginsSentence (front ++ more) → BeginsSentence front
-begins_shorter front more b = record { sentence = b.sentence; rest = more ++ b.rest; is = subst (λ z. IsSentence z b.sentence) (append_assoc front more b.rest) b.is }
+begins_shorter : (prefix more : List Lexeme) → BeginsSentence (prefix ++ more) → BeginsSentence prefix
+begins_shorter prefix more b = record { sentence = b.sentence; rest = more ++ b.rest; is = subst (λ z. IsSentence z b.sentence) (append_assoc prefix more b.rest) b.is }
 
 begins_before : (p q : ℕ) (found : List Lexeme) → p ≤ q → BeginsSentence (take q found) → BeginsSentence (take p found)
 begins_before p q found h b = begins_shorter (take p found) (drop p (take q found)) (subst BeginsSentence (take_shorter p q found h) b)
@@ -97,12 +98,6 @@ limit_reason (Some kind) next = Some (Outside.TooMany kind)
 abbrev reason_of : Sentence → Option Outside
 reason_of s = limit_reason (too_many s) (duplicate_reason (duplicate_of s) (unknown_reason (unknown_of s)))
 
-none_some : {A : Type 0} {x : A} → None ≡ Some x → ⊥
-none_some e = cc
-
-some_same : {A : Type 0} (x y : A) → ◌≡◌ {A = Option A} (Some x) (Some y) → x ≡ y
-some_same x y e = cc
-
 module _ (text : List ℕ) (tokens : List Token) where
   data Why : Outside → Type 0 where
     by_shape : (line : ℕ) → IsShape text tokens line → Why (Outside.Shape line)
@@ -127,7 +122,7 @@ module _ (text : List ℕ) (tokens : List Token) where
   same_why _ _ (by_shape l p) (by_sentence e s is q) = absurd (no_shape text tokens s l is p)
   same_why _ _ (by_sentence e s is q) (by_shape l p) = absurd (no_shape text tokens s l is p)
   same_why _ _ (by_sentence e s is q) (by_sentence f t it r) =
-      some_same e f (sym q ∙ ap reason_of (one_sentence (lexemes text tokens) s t is it) ∙ r)
+      some_same (sym q ∙ ap reason_of (one_sentence (lexemes text tokens) s t is it) ∙ r)
 
   pub one_reason : (a b : Outside) → IsReason text tokens a → IsReason text tokens b → a ≡ b
   one_reason a b p q = same_why a b (why a p) (why b q)

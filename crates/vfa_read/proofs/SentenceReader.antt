@@ -3,6 +3,7 @@ use Rattle.std.proofs.Common.{◌≡◌, ℕ, zero, suc, ◌+◌, ◌<◌, Bool,
 use Rattle.std.specs.List.{AllByRecursion}
 use Rattle.std.proofs.Math.Seq.{take-append_seam}
 use Rattle.std.proofs.lemmas.List.Elements.{recursion_from_All, All-from_recursion}
+use Rattle.std.specs.Str.{byte}
 use Rattle.vfa_ir.specs.declared.syntax.BasicBlock.{BasicBlock}
 use Rattle.vfa_ir.specs.Lexemes.{Lexeme, mark, label}
 use Rattle.vfa_ir.specs.Grammar.{FitsBlock, FitsBlocks, FitsSentence, may_follow_parameters}
@@ -29,9 +30,9 @@ FurtherFit = FitsFrom {S = Unit {0}} (λ _. LabelledFits) same_state tt
 abbrev pub BodyFits : Body → Type 0
 BodyFits p = EntryFits p.0 × FurtherFit p.1
 
-last_brace : (bs : List BasicBlock) → blocks_follow bs (mark 125) ≡ true
+last_brace : (bs : List BasicBlock) → blocks_follow bs (mark (byte "}")) ≡ true
 last_brace [] = refl
-last_brace (b ∷ []) = last_any b.terminator.attached (mark 125)
+last_brace (b ∷ []) = last_any b.terminator.attached (mark (byte "}"))
 last_brace (b ∷ c ∷ cs) = last_brace (c ∷ cs)
 
 abbrev body_follow : BasicBlock → List BasicBlock → Lexeme → Bool
@@ -60,8 +61,8 @@ body_both b [] (l ∷ ls) m k = and_both (block_follow b l) (blocks_follow [] l)
 body_both b (c ∷ cs) [] m k = refl
 body_both b (c ∷ cs) (l ∷ ls) m k = k
 
-brace_follows : (b : BasicBlock) (bs : List BasicBlock) → body_follow b bs (mark 125) ≡ true
-brace_follows b [] = and_both (block_follow b (mark 125)) (blocks_follow [] (mark 125)) (last_any b.terminator.attached (mark 125)) refl
+brace_follows : (b : BasicBlock) (bs : List BasicBlock) → body_follow b bs (mark (byte "}")) ≡ true
+brace_follows b [] = and_both (block_follow b (mark (byte "}"))) (blocks_follow [] (mark (byte "}"))) (last_any b.terminator.attached (mark (byte "}"))) refl
 brace_follows b (c ∷ cs) = last_brace (c ∷ cs)
 
 abbrev blocks : Reader Body
@@ -72,12 +73,12 @@ blocks_exact = after_exact_with (block_with entry_label) (λ _. further_blocks) 
     entry_exact (λ _ _. further_exact) (λ b bs rest f g m. body_joins b bs rest g m) body_second body_both
 
 abbrev pub body_spelling : Body → List Lexeme
-body_spelling p = mark 123 ∷ ((spell.block p.0 ++ flat_map spell.block p.1) ++ (mark 125 ∷ []))
+body_spelling p = mark (byte "{") ∷ ((spell.block p.0 ++ flat_map spell.block p.1) ++ (mark (byte "}") ∷ []))
 
 pub body_exact : Exact body body_spelling BodyFits anything
 unfolding body
-body_exact = skip_exact (the_mark 123) (mark 123) (ended blocks (the_mark 125)) (λ p. (spell.block p.0 ++ flat_map spell.block p.1) ++ (mark 125 ∷ [])) BodyFits anything (mark_exact 123)
-    (ended_exact blocks (the_mark 125) (mark 125) (λ p. spell.block p.0 ++ flat_map spell.block p.1) BodyFits (λ p. body_follow p.0 p.1) blocks_exact (mark_exact 125) (λ p f. brace_follows p.0 p.1))
+body_exact = skip_exact (the_mark (byte "{")) (mark (byte "{")) (ended blocks (the_mark (byte "}"))) (λ p. (spell.block p.0 ++ flat_map spell.block p.1) ++ (mark (byte "}") ∷ [])) BodyFits anything (mark_exact (byte "{"))
+    (ended_exact blocks (the_mark (byte "}")) (mark (byte "}")) (λ p. spell.block p.0 ++ flat_map spell.block p.1) BodyFits (λ p. body_follow p.0 p.1) blocks_exact (mark_exact (byte "}")) (λ p f. brace_follows p.0 p.1))
 
 -- the whole function
 
@@ -117,18 +118,19 @@ any_label None = inr refl
 any_label (Some n) = inl (record { from = n; fits = tt; is = refl })
 
 sentence_to : (s : Sentence) → Made sentence_of WholeFits s → FitsSentence s
-sentence_to s m =
-    let p = m.from in
-    let f = m.fits in
-    let further = labelled_to p.1.1.1 f.1.1.1 in
-    subst FitsSentence m.is (record {
-      lead = f.0.0;
-      width = f.0.1.0;
-      parameters = f.0.1.1.1;
-      tail = All-from_recursion (λ t. IsTrue (may_follow_parameters t)) p.1.0 f.1.0.0;
-      balanced = f.1.0.1;
-      blocks = (All-from_recursion FitsBlock (p.1.1.0 ∷ p.1.1.1) (f.1.1.0.1, further.0), All-from_recursion (λ b. IsSome b.label) p.1.1.1 further.1);
-    })
+sentence_to s m = subst FitsSentence m.is (parts_to m.from m.fits)
+  where
+    parts_to : (p : Whole) → WholeFits p → FitsSentence (sentence_of p)
+    parts_to (_, (tail, (entry, blocks))) ((lead, (width, (_, parameters))), ((stands, balanced), ((_, first), further))) =
+        let rest = labelled_to blocks further in
+        record {
+          lead = lead;
+          width = width;
+          parameters = parameters;
+          tail = All-from_recursion (λ t. IsTrue (may_follow_parameters t)) tail stands;
+          balanced = balanced;
+          blocks = (All-from_recursion FitsBlock (entry ∷ blocks) (first, rest.0), All-from_recursion (λ b. IsSome b.label) blocks rest.1);
+        }
 
 blocks_from : (s : Sentence) (bs : List BasicBlock) → s.blocks ≡ bs → FitsBlocks bs → FitsSentence s → Made sentence_of WholeFits s
 blocks_from s [] e g f = absurd g
@@ -170,21 +172,21 @@ ok_err : {s : Sentence} {n : ℕ} {rest : List Lexeme} → ◌≡◌ {A = Result
 ok_err e = cc
 
 -- what a sentence that begins so reads as
-begun : (front : List Lexeme) (b : Lexeme) (x : BeginsSentence (front ++ (b ∷ []))) → sentence (front ++ (b ∷ x.rest)) ≡ Ok (x.sentence, [])
-begun front b x = ap sentence (sym (append_assoc front (b ∷ []) x.rest)) ∙ read_whole ((front ++ (b ∷ [])) ++ x.rest) x.sentence x.is
+begun : (prefix : List Lexeme) (b : Lexeme) (x : BeginsSentence (prefix ++ (b ∷ []))) → sentence (prefix ++ (b ∷ x.rest)) ≡ Ok (x.sentence, [])
+begun prefix b x = ap sentence (sym (append_assoc prefix (b ∷ []) x.rest)) ∙ read_whole ((prefix ++ (b ∷ [])) ++ x.rest) x.sentence x.is
 
-stops_at : (found front : List Lexeme) (b : Lexeme) (rest : List Lexeme) → found ≡ front ++ (b ∷ rest) → BeginsSentence front → (BeginsSentence (front ++ (b ∷ [])) → ⊥) → StopsAt found (length front)
-stops_at found front b rest e begins bad = subst (λ z. StopsAt z (length front)) (sym e) (record {
-  within = longer front b rest;
-  begins = subst BeginsSentence (sym (take-append_seam front (b ∷ rest))) begins;
-  stops = λ x. bad (subst BeginsSentence (take_more front b rest) x);
+stops_at : (found prefix : List Lexeme) (b : Lexeme) (rest : List Lexeme) → found ≡ prefix ++ (b ∷ rest) → BeginsSentence prefix → (BeginsSentence (prefix ++ (b ∷ [])) → ⊥) → StopsAt found (length prefix)
+stops_at found prefix b rest e begins bad = subst (λ z. StopsAt z (length prefix)) (sym e) (record {
+  within = longer prefix b rest;
+  begins = subst BeginsSentence (sym (take-append_seam prefix (b ∷ rest))) begins;
+  stops = λ x. bad (subst BeginsSentence (take_more prefix b rest) x);
 })
 
 abbrev pub Reading : List Lexeme → Type 0
 Reading found = ((s : Sentence) × IsSentence found s) ⊎ (((place : ℕ) × StopsAt found place) ⊎ IsUnfinished found)
 
-pub stops_behind : (found : List Lexeme) (s : Sentence) (l : Lexeme) (ls : List Lexeme) → sentence found ≡ Ok (s, l ∷ ls) → StopsAt found (length (spell.spelling s))
-stops_behind found s l ls e =
+pub stops_after : (found : List Lexeme) (s : Sentence) (l : Lexeme) (ls : List Lexeme) → sentence found ≡ Ok (s, l ∷ ls) → StopsAt found (length (spell.spelling s))
+stops_after found s l ls e =
     let fits = sentence_exact.fits found (l ∷ ls) s e in
     let bad : BeginsSentence (spell.spelling s ++ (l ∷ [])) → ⊥ = λ x. (
     let here = sentence_exact.again s (l ∷ x.rest) fits refl in
@@ -198,7 +200,7 @@ is_sentence found s e = record { fits = sentence_exact.fits found [] s e; spelle
 
 read_some : (found : List Lexeme) (s : Sentence) (rest : List Lexeme) → sentence found ≡ Ok (s, rest) → Reading found
 read_some found s [] e = inl (s, is_sentence found s e)
-read_some found s (l ∷ ls) e = inr (inl (length (spell.spelling s), stops_behind found s l ls e))
+read_some found s (l ∷ ls) e = inr (inl (length (spell.spelling s), stops_after found s l ls e))
 
 -- the lexemes before the one at which reading stops, and those from it on
 abbrev Stopped : List Lexeme → ℕ → Type 0
@@ -211,7 +213,7 @@ no_back (b ∷ rest) e = absurd (omega arith)
 pub unfinished : (found : List Lexeme) → sentence found ≡ Err 0 → IsUnfinished found
 unfinished found e =
     let c : Stopped found 0 = sentence_exact.stops found 0 e in
-    let whole : found ≡ c.front = c.parts ∙ ap (λ z. c.front ++ z) (no_back c.back c.left) ∙ append-nil c.front in
+    let whole : found ≡ c.prefix = c.parts ∙ ap (λ z. c.prefix ++ z) (no_back c.back c.left) ∙ append-nil c.prefix in
     record {
       begins = subst BeginsSentence (sym whole) (record { sentence = c.value; rest = c.more; is = record { fits = c.fits; spelled = c.viable } });
       unfinished = λ s is. ok_err (sym (read_whole found s is) ∙ e);
@@ -229,20 +231,20 @@ stops_before found n place size e = by_back c.back refl
         let left : length c.back ≡ suc n = c.left in
         absurd (omega arith)
     by_back (b ∷ rest) q =
-        let bad : BeginsSentence (c.front ++ (b ∷ [])) → ⊥ = λ x. ok_err (sym (begun c.front b x) ∙ c.firm b rest x.rest q) in
-        let whole : length found ≡ length (c.front ++ c.back) = ap length c.parts in
+        let bad : BeginsSentence (c.prefix ++ (b ∷ [])) → ⊥ = λ x. ok_err (sym (begun c.prefix b x) ∙ c.firm b rest x.rest q) in
+        let whole : length found ≡ length (c.prefix ++ c.back) = ap length c.parts in
         let left : length c.back ≡ suc n = c.left in
-        let here : length c.front ≡ place = omega (arith, length-append c.front c.back) in
-        subst (StopsAt found) here (stops_at found c.front b rest (c.parts ∙ ap (λ z. c.front ++ z) q)
+        let here : length c.prefix ≡ place = omega (arith, length-append c.prefix c.back) in
+        subst (StopsAt found) here (stops_at found c.prefix b rest (c.parts ∙ ap (λ z. c.prefix ++ z) q)
         (record { sentence = c.value; rest = c.more; is = record { fits = c.fits; spelled = c.viable } }) bad)
 
 read_none : (found : List Lexeme) (n : ℕ) → sentence found ≡ Err n → Reading found
 read_none found zero e = inr (inr (unfinished found e))
 read_none found (suc n) e =
     let c : Stopped found (suc n) = sentence_exact.stops found (suc n) e in
-    let whole : length found ≡ length (c.front ++ c.back) = ap length c.parts in
+    let whole : length found ≡ length (c.prefix ++ c.back) = ap length c.parts in
     let left : length c.back ≡ suc n = c.left in
-    inr (inl (length c.front, stops_before found n (length c.front) (omega (arith, length-append c.front c.back)) e))
+    inr (inl (length c.prefix, stops_before found n (length c.prefix) (omega (arith, length-append c.prefix c.back)) e))
 
 pub reading_of : (found : List Lexeme) → Reading found
 reading_of found = by_read (sentence found) refl

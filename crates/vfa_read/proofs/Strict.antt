@@ -1,4 +1,4 @@
--- The literal behind the number of a call fits where the call does.
+-- The literal after the number of a call fits where the call does.
 use Rattle.std.proofs.Common.{Option, Some, None, IfSome}
 use Rattle.vfa_ir.specs.declared.operations.Fun1.{Fun1}
 use Rattle.vfa_ir.specs.declared.syntax.Literal.{Literal}

@@ -2,6 +2,7 @@
 use Rattle.std.proofs.Common.{◌≡◌, ℕ, zero, suc, ◌+◌, ◌-◌, Bool, true, false, not, ◌&&◌, ◌==◌, nat_lt, List, [], ◌∷◌, ◌++◌, replicate, length, if◌then◌else◌, Option, Some, None, Result, Ok, Err, IsTrue, refl, sym, ap, ◌∙◌, subst, arith, eqb-true, add-one, true≢false}
 use Rattle.std.specs.List.{AllByRecursion}
 use Rattle.std.proofs.lemmas.Bool.Decides.{nat_tests}
+use Rattle.std.specs.Str.{byte}
 use Rattle.vfa_ir.specs.Lexemes.{Lexeme, local, global, label, nameless_local, nameless_global, nameless_label, metadata, group, number, mark, word, string, other}
 use Rattle.vfa_ir.specs.Grammar.{may_follow_parameters, is_balanced}
 use Rattle.vfa_read.specs.Headers.{Place, opens, closes, stands, leaves, place_of, with_lexeme, tail_end, tail_from}
@@ -9,6 +10,7 @@ use Rattle.vfa_read.specs.Readers.{next_passes}
 use Rattle.vfa_read.specs.Trees.{open_after}
 use Rattle.vfa_read.proofs.Exact.{Exact, Stops, may, made_err, ok_value, ok_rest}
 use Rattle.vfa_read.proofs.Words.{and_parts}
+use Rattle.vfa_read.proofs.Outcomes.{err_ok}
 
 -- what the place of a lexeme says of it
 
@@ -19,15 +21,15 @@ data Says (l : Lexeme) : Place → Type 0 where
   says_leaves : may_follow_parameters l ≡ false → Says l leaves
 
 says_mark : (c : ℕ) → Says (mark c) (place_of (mark c))
-says_mark c = go (c == 40) refl (c == 41) refl (may_follow_parameters (mark c)) refl
+says_mark c = go (c == byte "(") refl (c == byte ")") refl (may_follow_parameters (mark c)) refl
   where
-    go : (a : Bool) → (c == 40) ≡ a → (b : Bool) → (c == 41) ≡ b → (m : Bool) → may_follow_parameters (mark c) ≡ m → Says (mark c) (place_of (mark c))
+    go : (a : Bool) → (c == byte "(") ≡ a → (b : Bool) → (c == byte ")") ≡ b → (m : Bool) → may_follow_parameters (mark c) ≡ m → Says (mark c) (place_of (mark c))
     go true a b p m q =
-        let is = eqb-true c 40 a in
+        let is = eqb-true c (byte "(") a in
         let place : place_of (mark c) ≡ opens = rw a refl in
         subst (Says (mark c)) (sym place) (says_opens (ap (λ z. may_follow_parameters (mark z)) is) (λ n t. rw a refl))
     go false a true b m q =
-        let is = eqb-true c 41 b in
+        let is = eqb-true c (byte ")") b in
         let place : place_of (mark c) ≡ closes = rw (a, b) refl in
         subst (Says (mark c)) (sym place) (says_closes (ap (λ z. may_follow_parameters (mark z)) is) (λ n t. rw (a, b) refl))
     go false a false b true q =
@@ -87,9 +89,6 @@ TailFits n t = AllByRecursion (λ l. IsTrue (may_follow_parameters l)) t × (is_
 abbrev pub tail_follow : List Lexeme → Lexeme → Bool
 tail_follow t l = not (may_follow_parameters l)
 
-err_ok : {k : ℕ} {p : List Lexeme × List Lexeme} → ◌≡◌ {A = Result (List Lexeme × List Lexeme) ℕ} (Err k) (Ok p) → ⊥
-err_ok e = cc
-
 err_same : {k m : ℕ} → ◌≡◌ {A = Result (List Lexeme × List Lexeme) ℕ} (Err k) (Err m) → k ≡ m
 err_same e = cc
 
@@ -98,16 +97,16 @@ record Got (n : ℕ) (ts rest t : List Lexeme) : Type 0 where
   fits : TailFits n t
   ends : may (tail_follow t) rest ≡ true
 
-record Behind (l : Lexeme) (r : Result (List Lexeme × List Lexeme) ℕ) (t rest : List Lexeme) : Type 0 where
+record Continued (l : Lexeme) (r : Result (List Lexeme × List Lexeme) ℕ) (t rest : List Lexeme) : Type 0 where
   more : List Lexeme
   read_is : r ≡ Ok (more, rest)
   whole : l ∷ more ≡ t
 
-behind : (l : Lexeme) (r : Result (List Lexeme × List Lexeme) ℕ) (t rest : List Lexeme) → with_lexeme l r ≡ Ok (t, rest) → Behind l r t rest
-behind l (Ok p) t rest e = record { more = p.0; read_is = ap (λ z. Ok (p.0, z)) (ok_rest (l ∷ p.0, p.1) (t, rest) e); whole = ok_value (l ∷ p.0, p.1) (t, rest) e }
-behind l (Err k) t rest e = cc
+continued : (l : Lexeme) (r : Result (List Lexeme × List Lexeme) ℕ) (t rest : List Lexeme) → with_lexeme l r ≡ Ok (t, rest) → Continued l r t rest
+continued l (Ok p) t rest e = record { more = p.0; read_is = ap (λ z. Ok (p.0, z)) (ok_rest (l ∷ p.0, p.1) (t, rest) e); whole = ok_value (l ∷ p.0, p.1) (t, rest) e }
+continued l (Err k) t rest e = cc
 
-got_more : (n m : ℕ) (l : Lexeme) (ls rest t : List Lexeme) (b : Behind l (tail_from m ls) t rest) → may_follow_parameters l ≡ true → ((u : List Lexeme) → is_balanced m u ≡ true → is_balanced n (l ∷ u) ≡ true) → Got m ls rest b.more → Got n (l ∷ ls) rest t
+got_more : (n m : ℕ) (l : Lexeme) (ls rest t : List Lexeme) (b : Continued l (tail_from m ls) t rest) → may_follow_parameters l ≡ true → ((u : List Lexeme) → is_balanced m u ≡ true → is_balanced n (l ∷ u) ≡ true) → Got m ls rest b.more → Got n (l ∷ ls) rest t
 got_more n m l ls rest t b a h g = subst (Got n (l ∷ ls) rest) b.whole (record {
   parts = ap (λ z. l ∷ z) g.parts;
   fits = ((a, g.fits.0), h b.more g.fits.1);
@@ -136,14 +135,14 @@ got (l ∷ ls) n rest t e = by_place (place_of l) refl (says l) n e (λ m u g. g
   where
     by_place : (p : Place) → place_of l ≡ p → Says l p → (n : ℕ) → tail_from n (l ∷ ls) ≡ Ok (t, rest) → ((m : ℕ) (u : List Lexeme) → tail_from m ls ≡ Ok (u, rest) → Got m ls rest u) → Got n (l ∷ ls) rest t
     by_place opens p (says_opens a h) n e hyp =
-        let b = behind l (tail_from (suc n) ls) t rest (sym (step_opens l ls n p) ∙ e) in
+        let b = continued l (tail_from (suc n) ls) t rest (sym (step_opens l ls n p) ∙ e) in
         got_more n (suc n) l ls rest t b a (opened n l h) (hyp (suc n) b.more b.read_is)
     by_place closes p (says_closes a h) zero e hyp = absurd (err_ok (sym (step_closed l ls p) ∙ e))
     by_place closes p (says_closes a h) (suc n) e hyp =
-        let b = behind l (tail_from n ls) t rest (sym (step_closes l ls n p) ∙ e) in
+        let b = continued l (tail_from n ls) t rest (sym (step_closes l ls n p) ∙ e) in
         got_more (suc n) n l ls rest t b a (closed n l h) (hyp n b.more b.read_is)
     by_place stands p (says_stands a h) n e hyp =
-        let b = behind l (tail_from n ls) t rest (sym (step_stands l ls n p) ∙ e) in
+        let b = continued l (tail_from n ls) t rest (sym (step_stands l ls n p) ∙ e) in
         got_more n n l ls rest t b a (λ u k. h n u ∙ k) (hyp n b.more b.read_is)
     by_place leaves p (says_leaves a) n e hyp = end_got n (l ∷ ls) rest t (ap not a) (sym (step_leaves l ls n p) ∙ e)
 
@@ -178,7 +177,7 @@ again (l ∷ t) n rest f m = by_place (place_of l) refl (says l) n f.1 (λ k b. 
 -- where it stops
 
 abbrev closing : ℕ → List Lexeme
-closing n = replicate n (mark 41)
+closing n = replicate n (mark (byte ")"))
 
 closing_fits : (n : ℕ) → TailFits n (closing n)
 closing_fits zero = (tt, refl)
@@ -196,11 +195,11 @@ unfinished zero k e = let no = sym e in absurd (err_ok no)
 unfinished (suc n) k e =
     let stopped : tail_end (suc n) [] ≡ Err 0 = (let z = not_zero n in rw z refl) in
     let same = err_same (sym stopped ∙ e) in
-    record { front = []; back = []; parts = refl; left = same; value = closing (suc n); fits = closing_fits (suc n); more = closing (suc n); viable = refl; firm = λ b rest other h. cc }
+    record { prefix = []; back = []; parts = refl; left = same; value = closing (suc n); fits = closing_fits (suc n); more = closing (suc n); viable = refl; firm = λ b rest other h. cc }
 
 bad_here : (n : ℕ) (l : Lexeme) (ls : List Lexeme) (k : ℕ) → suc (length ls) ≡ k → ((other : List Lexeme) → tail_from n (l ∷ other) ≡ Err (suc (length other))) → StopsTail n (l ∷ ls) k
 bad_here n l ls k e h = record {
-  front = [];
+  prefix = [];
   back = l ∷ ls;
   parts = refl;
   left = e;
@@ -213,7 +212,7 @@ bad_here n l ls k e h = record {
 
 later : (n m : ℕ) (l : Lexeme) (ls : List Lexeme) (k : ℕ) → may_follow_parameters l ≡ true → ((u : List Lexeme) → is_balanced m u ≡ true → is_balanced n (l ∷ u) ≡ true) → ((us : List Lexeme) → tail_from n (l ∷ us) ≡ with_lexeme l (tail_from m us)) → StopsTail m ls k → StopsTail n (l ∷ ls) k
 later n m l ls k a h step s = record {
-  front = l ∷ s.front;
+  prefix = l ∷ s.prefix;
   back = s.back;
   parts = ap (λ z. l ∷ z) s.parts;
   left = s.left;
@@ -221,26 +220,26 @@ later n m l ls k a h step s = record {
   fits = ((a, s.fits.0), h s.value s.fits.1);
   more = s.more;
   viable = ap (λ z. l ∷ z) s.viable;
-  firm = λ b rest other q. step (s.front ++ (b ∷ other)) ∙ ap (with_lexeme l) (s.firm b rest other q);
+  firm = λ b rest other q. step (s.prefix ++ (b ∷ other)) ∙ ap (with_lexeme l) (s.firm b rest other q);
 }
 
 stops : (ts : List Lexeme) (n k : ℕ) → tail_from n ts ≡ Err k → StopsTail n ts k
 stops [] n k e = unfinished n k (sym (no_more n) ∙ e)
 stops (l ∷ ls) n k e = by_place (place_of l) refl (says l) n e (λ m q. stops ls m k q)
   where
-    behind_err : (r : Result (List Lexeme × List Lexeme) ℕ) → with_lexeme l r ≡ Err k → r ≡ Err k
-    behind_err r q = made_err r (λ p. (l ∷ p.0, p.1)) k q
+    after_err : (r : Result (List Lexeme × List Lexeme) ℕ) → with_lexeme l r ≡ Err k → r ≡ Err k
+    after_err r q = made_err r (λ p. (l ∷ p.0, p.1)) k q
 
     by_place : (p : Place) → place_of l ≡ p → Says l p → (n : ℕ) → tail_from n (l ∷ ls) ≡ Err k → ((m : ℕ) → tail_from m ls ≡ Err k → StopsTail m ls k) → StopsTail n (l ∷ ls) k
     by_place opens p (says_opens a h) n e hyp =
-        later n (suc n) l ls k a (opened n l h) (λ us. step_opens l us n p) (hyp (suc n) (behind_err (tail_from (suc n) ls) (sym (step_opens l ls n p) ∙ e)))
+        later n (suc n) l ls k a (opened n l h) (λ us. step_opens l us n p) (hyp (suc n) (after_err (tail_from (suc n) ls) (sym (step_opens l ls n p) ∙ e)))
     by_place closes p (says_closes a h) zero e hyp =
         let same = err_same (sym (step_closed l ls p) ∙ e) in
         bad_here zero l ls k same (λ other. step_closed l other p)
     by_place closes p (says_closes a h) (suc n) e hyp =
-        later (suc n) n l ls k a (closed n l h) (λ us. step_closes l us n p) (hyp n (behind_err (tail_from n ls) (sym (step_closes l ls n p) ∙ e)))
+        later (suc n) n l ls k a (closed n l h) (λ us. step_closes l us n p) (hyp n (after_err (tail_from n ls) (sym (step_closes l ls n p) ∙ e)))
     by_place stands p (says_stands a h) n e hyp =
-        later n n l ls k a (λ u q. h n u ∙ q) (λ us. step_stands l us n p) (hyp n (behind_err (tail_from n ls) (sym (step_stands l ls n p) ∙ e)))
+        later n n l ls k a (λ u q. h n u ∙ q) (λ us. step_stands l us n p) (hyp n (after_err (tail_from n ls) (sym (step_stands l ls n p) ∙ e)))
     by_place leaves p (says_leaves a) zero e hyp = absurd (err_ok (sym e ∙ step_leaves l ls zero p))
     by_place leaves p (says_leaves a) (suc n) e hyp =
         let stopped : (us : List Lexeme) → tail_from (suc n) (l ∷ us) ≡ Err (suc (length us)) = λ us. (let z = not_zero n in step_leaves l us (suc n) p ∙ rw z refl) in
@@ -260,20 +259,14 @@ tail_exact n = record {
 
 -- one lexeme after another, by how many parentheses are open
 
-none_some : {n : ℕ} → ◌≡◌ {A = Option ℕ} None (Some n) → ⊥
-none_some e = cc
-
-some_same : {n m : ℕ} → ◌≡◌ {A = Option ℕ} (Some n) (Some m) → n ≡ m
-some_same e = cc
-
 abbrev Next : ℕ → Lexeme → List Lexeme → Option ℕ → Type 0
 Next n l ls None = tail_from n (l ∷ ls) ≡ Err (suc (length ls))
 Next n l ls (Some m) = tail_from n (l ∷ ls) ≡ with_lexeme l (tail_from m ls)
 
 next_mark : (c n : ℕ) (ls : List Lexeme) → may_follow_parameters (mark c) ≡ true → Next n (mark c) ls (open_after n (mark c))
-next_mark c n ls f = go (c == 40) refl (c == 41) refl
+next_mark c n ls f = go (c == byte "(") refl (c == byte ")") refl
   where
-    closes_by : (n : ℕ) → (c == 40) ≡ false → (c == 41) ≡ true → Next n (mark c) ls (if n == 0 then None else Some (n - 1))
+    closes_by : (n : ℕ) → (c == byte "(") ≡ false → (c == byte ")") ≡ true → Next n (mark c) ls (if n == 0 then None else Some (n - 1))
     closes_by zero a b = step_closed (mark c) ls (rw (a, b) refl)
     closes_by (suc m) a b =
         let z = not_zero m in
@@ -281,7 +274,7 @@ next_mark c n ls f = go (c == 40) refl (c == 41) refl
         let e : (if suc m == 0 then None else Some (suc m - 1)) ≡ Some m = rw (z, less) refl in
         subst (Next (suc m) (mark c) ls) (sym e) (step_closes (mark c) ls m (rw (a, b) refl))
 
-    go : (a : Bool) → (c == 40) ≡ a → (b : Bool) → (c == 41) ≡ b → Next n (mark c) ls (open_after n (mark c))
+    go : (a : Bool) → (c == byte "(") ≡ a → (b : Bool) → (c == byte ")") ≡ b → Next n (mark c) ls (open_after n (mark c))
     go true a b q =
         let e : open_after n (mark c) ≡ Some (n + 1) = rw a refl in
         subst (Next n (mark c) ls) (sym e) (step_opens (mark c) ls n (rw a refl) ∙ ap (λ z. with_lexeme (mark c) (tail_from z ls)) (sym (add-one n)))

@@ -10,14 +10,12 @@ use Rattle.vfa_read.specs.declared.sentences.FunctionTree.{FunctionTree}
 use Rattle.vfa_read.specs.declared.stops.Stop.{Stop}
 use Rattle.vfa_read.specs.Headers as read
 use Rattle.vfa_read.specs.Readers.{Reader, Gives, made, ◌>>=◌}
-use Rattle.vfa_read.specs.Trees.{between, header_of, blocks_of, sentence_of, Passes, Begins, GivesTree, IsTree, IsStop}
+use Rattle.vfa_read.specs.Trees.{between, header_of, blocks_of, tree_sentence, GivesEnd, Begins, GivesTree, IsTree, IsStop}
 use Rattle.vfa_read.proofs.Exact.{made_err, ok_value, ok_rest}
 use Rattle.vfa_read.proofs.HeaderReaders.{header_exact}
-use Rattle.vfa_read.proofs.SentenceReader.{body_exact, sentence_exact, is_sentence, stops_behind, stops_before, unfinished}
+use Rattle.vfa_read.proofs.SentenceReader.{body_exact, sentence_exact, is_sentence, stops_after, stops_before, unfinished}
 use Rattle.vfa_read.proofs.TailReader.{tail_exact}
-
-err_ok : {A : Type 0} {n : ℕ} {x : A} → ◌≡◌ {A = Result A ℕ} (Err n) (Ok x) → ⊥
-err_ok e = cc
+use Rattle.vfa_read.proofs.Outcomes.{err_ok}
 
 nil_cons : {l : Lexeme} {ls : List Lexeme} → [] ≡ l ∷ ls → ⊥
 nil_cons e = cc
@@ -61,7 +59,7 @@ module _ (all : List Lexeme) (t : FunctionTree) (at : ℕ)
   unfolding read.sentence
   parts = let x = a.reads in let y = c.reads in rw (x, m, y) refl
 
-  same : read.sentence_of (a.from, (between t.tail_start t.tail_end all, c.from)) ≡ sentence_of all t
+  same : read.sentence_of (a.from, (between t.tail_start t.tail_end all, c.from)) ≡ tree_sentence all t
   same =
       ap (λ z. record { lead = z.lead; width = z.width; name = z.name; parameters = z.parameters; tail = between t.tail_start t.tail_end all; blocks = blocks_of c.from }) a.is
       ∙ ap (λ z. record { lead = t.header.lead; width = t.header.width; name = t.header.name; parameters = t.header.parameters; tail = between t.tail_start t.tail_end all; blocks = z }) c.is
@@ -69,7 +67,7 @@ module _ (all : List Lexeme) (t : FunctionTree) (at : ℕ)
   inside : t.tail_end < length all
   inside = within t.tail_end all _ _ (body_exact.sound (drop t.tail_end all) (drop at all) c.from c.reads)
 
-  header_size : t.tail_start ≡ length (spell.header (sentence_of all t))
+  header_size : t.tail_start ≡ length (spell.header (tree_sentence all t))
   header_size =
       let s = header_exact.sound all (drop t.tail_start all) a.from a.reads in
       let sizes = ap length s in
@@ -97,7 +95,7 @@ unfolding read.sentence
 header_stops all (Stop.At place) g = let x = made_err (read.header all) (λ p. (header_of p.0, p.1)) (length (drop place all)) g in rw x refl
 header_stops all Stop.Memory g = tt
 
-pub tail_stops : (all : List Lexeme) (e : Stop) (header : FunctionHeader) (start : ℕ) → made header_of read.header all ≡ Ok (header, drop start all) → Passes start all (Err e) (read.tail_from 0 (drop start all)) → GivesTree all (Err e)
+pub tail_stops : (all : List Lexeme) (e : Stop) (header : FunctionHeader) (start : ℕ) → made header_of read.header all ≡ Ok (header, drop start all) → GivesEnd start all (Err e) (read.tail_from 0 (drop start all)) → GivesTree all (Err e)
 unfolding read.sentence
 tail_stops all (Stop.At place) header start h g = let x = (from_made header_of read.header all (drop start all) header h).reads in rw (x, g) refl
 tail_stops all Stop.Memory header start h g = tt
@@ -115,21 +113,21 @@ body_stops all Stop.Memory header start end h m g = tt
 pub whole_tree : (all : List Lexeme) (t : FunctionTree) (at : ℕ) → length all ≤ at → Begins all t at → IsTree all t
 whole_tree all t at h b =
     let none : drop at all ≡ [] = drop_of_length-le all h in
-    record { is = is_sentence all (sentence_of all t) (b.reads ∙ ap (λ z. Ok (sentence_of all t, z)) none); start = b.start; tail = b.tail }
+    record { is = is_sentence all (tree_sentence all t) (b.reads ∙ ap (λ z. Ok (tree_sentence all t, z)) none); start = b.start; tail = b.tail }
 
-more_behind : (at : ℕ) (all : List Lexeme) → at < length all → (l : Lexeme) × (ls : List Lexeme) × (drop at all ≡ l ∷ ls)
-more_behind at [] h = absurd (omega arith)
-more_behind zero (x ∷ xs) h = (x, xs, refl)
-more_behind (suc at) (x ∷ xs) h = more_behind at xs (omega arith)
+more_after : (at : ℕ) (all : List Lexeme) → at < length all → (l : Lexeme) × (ls : List Lexeme) × (drop at all ≡ l ∷ ls)
+more_after at [] h = absurd (omega arith)
+more_after zero (x ∷ xs) h = (x, xs, refl)
+more_after (suc at) (x ∷ xs) h = more_after at xs (omega arith)
 
 pub more_stops : (all : List Lexeme) (t : FunctionTree) (at : ℕ) → at < length all → Begins all t at → IsStop all (Stop.At at)
 more_stops all t at h b =
-    let k = more_behind at all h in
-    let s = sentence_of all t in
+    let k = more_after at all h in
+    let s = tree_sentence all t in
     let e : read.sentence all ≡ Ok (s, k.0 ∷ k.1) = b.reads ∙ ap (λ z. Ok (s, z)) k.2 in
     let sizes = ap length (sentence_exact.sound all (drop at all) s b.reads) in
     let here : length (spell.spelling s) ≡ at = omega (arith, h, length-append (spell.spelling s) (drop at all), length-drop at all) in
-    inl (subst (StopsAt all) here (stops_behind all s k.0 k.1 e))
+    inl (subst (StopsAt all) here (stops_after all s k.0 k.1 e))
 
 pub stop_is : (all : List Lexeme) (e : Stop) → GivesTree all (Err e) → IsStop all e
 stop_is all Stop.Memory g = tt

@@ -1,5 +1,5 @@
--- Uses one behind the other: the first that is not defined.
-use Rattle.std.proofs.Common.{◌≡◌, ◌∙◌, ℕ, List, [], ◌∷◌, ◌++◌, Bool, true, false, if◌then◌else◌, Some, None, Result, Ok, Err, refl, sym, ap, subst, append_assoc, ◌<◌, length, get_or, All, drop, ◌+◌, IfErr}
+-- Uses one after the other: the first that is not defined.
+use Rattle.std.proofs.Common.{◌≡◌, ◌∙◌, ℕ, List, [], ◌∷◌, ◌++◌, Bool, true, false, if◌then◌else◌, Some, None, Result, Ok, Err, refl, sym, ap, subst, append_assoc, drop, ◌+◌}
 use Rattle.std.specs.Result.{IsErrAnd}
 use Rattle.vfa_ir.specs.declared.reasons.Outside.{Outside}
 use Rattle.vfa_ir.specs.DefinedNames.{Use, is_known, used_name}
@@ -62,9 +62,6 @@ pub item_made : {Y : Type 0} (made after whole here : List Y) (y x : Y) (rest : 
 item_made made after whole here y x rest h parts same pushed =
     ap (λ l. l ++ rest) pushed ∙ append_assoc made (y ∷ []) rest ∙ ap (λ z. made ++ z ∷ rest) same ∙ ap (λ l. made ++ l) (sym parts) ∙ h
 
-pub fits_item : {X : Type 0} (P : X → Type 0) (xs : List X) (i : ℕ) (x : X) → All P xs → i < length xs → x ≡ get_or xs i x → P x
-fits_item P xs i x all h e = subst P (sym e) (all i x h)
-
 pub third_unknown : (scope : Scope) (a b c all : List Use) (e : Outside) → a ++ (b ++ c) ≡ all → unknown_in scope a ≡ None → unknown_in scope b ≡ None
     → IsUnknown (unknown_in scope c) e → IsUnknown (unknown_in scope all) e
 third_unknown scope a b c all e parts h k l =
@@ -90,7 +87,3 @@ grown f xs i x made after whole splits at h pushed =
     ∙ ap (λ l. made ++ l) (sym (ap f at ∙ splits (x ∷ []) (drop (i + 1) xs))) ∙ h
 
 -- an error that is handed on
-pub unknown_is : {A : Type 0} (scope : Scope) (uses : List Use) (r : Result A Outside) (f : Outside) → IsErrAnd r (λ e. e ≡ f) → IsUnknown (unknown_in scope uses) f
-    → IfErr r (IsUnknown (unknown_in scope uses))
-unknown_is scope uses (Ok y) f h k = absurd h
-unknown_is scope uses (Err e) f h k = subst (IsUnknown (unknown_in scope uses)) (sym h) k

@@ -1,4 +1,4 @@
--- Reading a block, and the blocks behind the first one, is exact.
+-- Reading a block, and the blocks after the first one, is exact.
 use Rattle.std.proofs.Common.{◌≡◌, ℕ, ◌<◌, Bool, true, false, not, List, [], ◌∷◌, ◌++◌, flat_map, length, Option, Some, None, Ok, Err, ◌⊎◌, codes, refl, sym, ap, ◌∙◌, subst, append_assoc}
 use Rattle.vfa_ir.specs.declared.syntax.BasicBlock.{BasicBlock}
 use Rattle.vfa_read.specs.declared.lines.Line.{Line}
@@ -27,12 +27,12 @@ last_word [] w = refl
 last_word (x ∷ []) w = line_then x (word w) refl refl
 last_word (x ∷ y ∷ ys) w = last_word (y ∷ ys) w
 
-end_joins : (ls : List Line) (t : TerminatorKind) (behind : List Lexeme) → may (lines_follow ls) (spell.terminator_kind t ++ behind) ≡ true
-end_joins ls (TerminatorKind.Return w a) behind = last_word ls (codes "ret")
-end_joins ls (TerminatorKind.Always to) behind = last_word ls (codes "br")
-end_joins ls (TerminatorKind.Condition c t e) behind = last_word ls (codes "br")
-end_joins ls (TerminatorKind.Switch w on d cs) behind = last_word ls (codes "switch")
-end_joins ls TerminatorKind.Unreachable behind = last_word ls (codes "unreachable")
+end_joins : (ls : List Line) (t : TerminatorKind) (later : List Lexeme) → may (lines_follow ls) (spell.terminator_kind t ++ later) ≡ true
+end_joins ls (TerminatorKind.Return w a) later = last_word ls (codes "ret")
+end_joins ls (TerminatorKind.Always to) later = last_word ls (codes "br")
+end_joins ls (TerminatorKind.Condition c t e) later = last_word ls (codes "br")
+end_joins ls (TerminatorKind.Switch w on d cs) later = last_word ls (codes "switch")
+end_joins ls TerminatorKind.Unreachable later = last_word ls (codes "unreachable")
 
 -- no line and no terminator begins with a label
 
@@ -42,18 +42,18 @@ no_label nameless_local e = refl
 no_label (word w) e = refl
 no_label _ e = cc
 
-kind_no_label : (t : TerminatorKind) (behind : List Lexeme) → may (λ l. not (starts_label l)) (spell.terminator_kind t ++ behind) ≡ true
-kind_no_label (TerminatorKind.Return w a) behind = refl
-kind_no_label (TerminatorKind.Always to) behind = refl
-kind_no_label (TerminatorKind.Condition c t e) behind = refl
-kind_no_label (TerminatorKind.Switch w on d cs) behind = refl
-kind_no_label TerminatorKind.Unreachable behind = refl
+kind_no_label : (t : TerminatorKind) (later : List Lexeme) → may (λ l. not (starts_label l)) (spell.terminator_kind t ++ later) ≡ true
+kind_no_label (TerminatorKind.Return w a) later = refl
+kind_no_label (TerminatorKind.Always to) later = refl
+kind_no_label (TerminatorKind.Condition c t e) later = refl
+kind_no_label (TerminatorKind.Switch w on d cs) later = refl
+kind_no_label TerminatorKind.Unreachable later = refl
 
 terminator_no_label : (t : Terminator) (rest : List Lexeme) → may (λ l. not (starts_label l)) (spell.terminator t ++ rest) ≡ true
 terminator_no_label t rest = ap (may (λ l. not (starts_label l))) (append_assoc (spell.terminator_kind t.kind) (spell.attachments t.attached) rest) ∙ kind_no_label t.kind (spell.attachments t.attached ++ rest)
 
-begun : (ls behind : List Lexeme) → Begins starts_line ls → may (λ l. not (starts_label l)) (ls ++ behind) ≡ true
-begun ls behind b = ap (λ z. may (λ l. not (starts_label l)) (z ++ behind)) b.is ∙ ap not (no_label b.head b.passes)
+begun : (ls later : List Lexeme) → Begins starts_line ls → may (λ l. not (starts_label l)) (ls ++ later) ≡ true
+begun ls later b = ap (λ z. may (λ l. not (starts_label l)) (z ++ later)) b.is ∙ ap not (no_label b.head b.passes)
 
 lines_no_label : (ls : List Line) (t : Terminator) (rest : List Lexeme) → FitsLines true ls → may (λ l. not (starts_label l)) ((flat_map items.line ls ++ spell.terminator t) ++ rest) ≡ true
 lines_no_label [] t rest f = terminator_no_label t rest

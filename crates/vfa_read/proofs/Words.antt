@@ -1,5 +1,5 @@
 -- Texts and tests of texts.
-use Rattle.std.proofs.Common.{◌≡◌, ℕ, ◌<◌, ◌≤◌, ◌^◌, Bool, true, false, not, ◌&&◌, ◌==◌, nat_le, cond, List, [], ◌∷◌, length, get_or, Option, Some, None, decimal, bytes_eq, refl, sym, ap, ◌∙◌, arith, ne_eqb, eqb-true, leb-true, true≢false}
+use Rattle.std.proofs.Common.{◌≡◌, ℕ, ◌<◌, ◌≤◌, ◌^◌, Bool, true, false, not, ◌&&◌, ◌==◌, nat_le, cond, List, [], ◌∷◌, length, get_or, Option, Some, None, decimal, bytes_eq, refl, sym, ap, ◌∙◌, arith, ne_eqb, eqb-true, leb-true, true≢false, le-leb}
 use Rattle.std.specs.List.{list_all}
 use Rattle.std.specs.Char.{is_ascii_digit, digit_value}
 use Rattle.std.specs.Str.Parse.{digits_value, AllDigits}
@@ -7,7 +7,7 @@ use Rattle.std.proofs.lemmas.Slice.Eq.{bytes_eq-Decides}
 use Rattle.std.proofs.lemmas.Str.{digit_value_digit}
 use Rattle.std.proofs.lemmas.Str.Parse.{digit_from_value, numerals_by_value, tells_digits}
 use Rattle.std.proofs.lemmas.Fmt.{digits_decimal, digits_value-decimal, first_decimal, decimal-digits_value}
-use Rattle.std.proofs.lemmas.Bool.Decides.{nat_tests}
+use Rattle.std.specs.Str.{byte}
 use Rattle.vfa_ir.specs.Grammar.{IsWidth}
 use Rattle.vfa_ir.specs.Words.{is_digits, type_word}
 use Rattle.vfa_read.specs.Tables.{width_in_range, is_numeral, type_width}
@@ -35,9 +35,6 @@ picked : {A : Type 0} (b : Bool) (x : Option A) (y : A) → cond b x None ≡ So
 picked true x y e = (refl, e)
 picked false x y e = cc
 
-le_true : (a b : ℕ) → a ≤ b → nat_le a b ≡ true
-le_true a b h = grind (arith, nat_tests)
-
 digit_is : (c : ℕ) → is_ascii_digit c ≡ true → digit_value c < 10
 digit_is c e =
     let p = and_parts (nat_le 48 c) (nat_le c 57) e in
@@ -46,7 +43,7 @@ digit_is c e =
     omega (arith, digit_value_digit c (low, high))
 
 is_digit : (c : ℕ) → digit_value c < 10 → is_ascii_digit c ≡ true
-is_digit c h = let r = digit_from_value c h in let a = le_true 48 c r.0 in let b = le_true c 57 r.1 in rw (a, b) refl
+is_digit c h = let r = digit_from_value c h in let a = le-leb 48 c r.0 in let b = le-leb c 57 r.1 in rw (a, b) refl
 
 pub all_digits : (ds : List ℕ) → list_all is_ascii_digit ds ≡ true → AllDigits 10 ds
 all_digits [] e = tt
@@ -65,19 +62,19 @@ in_range_is n w e =
     (record { least = omega arith; most = omega arith }, t.1)
 
 is_in_range : (w : ℕ) → IsWidth w → width_in_range w ≡ Some w
-is_in_range w h = let a = le_true 1 w h.least in let b = le_true w 128 h.most in rw (a, b) refl
+is_in_range w h = let a = le-leb 1 w h.least in let b = le-leb w 128 h.most in rw (a, b) refl
 
 pub width_is : (text : List ℕ) (w : ℕ) → type_width text ≡ Some w → IsWidth w × (text ≡ type_word w)
 width_is [] w e = cc
-width_is (c ∷ []) w e = let p = picked (c == 105 && false) (width_in_range 0) w e in let q = and_parts (c == 105) false p.0 in let no = q.1 in cc
+width_is (c ∷ []) w e = let p = picked (c == byte "i" && false) (width_in_range 0) w e in let q = and_parts (c == byte "i") false p.0 in let no = q.1 in cc
 width_is (c ∷ d ∷ ds) w e =
     let digits : List ℕ = d ∷ ds in
-    let p = picked (c == 105 && is_numeral digits) (width_in_range (digits_value 10 digits)) w e in
-    let q = and_parts (c == 105) (is_numeral digits) p.0 in
+    let p = picked (c == byte "i" && is_numeral digits) (width_in_range (digits_value 10 digits)) w e in
+    let q = and_parts (c == byte "i") (is_numeral digits) p.0 in
     let r = and_parts (is_digits digits) (not (d == 48)) q.1 in
     let all = all_digits digits r.0 in
     let inside = in_range_is (digits_value 10 digits) w p.1 in
-    let letter : c ≡ 105 = eqb-true c 105 q.0 in
+    let letter : c ≡ byte "i" = eqb-true c (byte "i") q.0 in
     let lead : get_or digits 0 0 ≡ 48 → length digits ≡ 1 = λ z. (let yes_zero : (d == 48) ≡ true = ap (λ x. x == 48) z in let no_zero = not_parts (d == 48) r.1 in absurd (true≢false (sym yes_zero ∙ no_zero))) in
     let most : w ≤ 128 = inside.0.most in
     let is = decimal-digits_value (numerals_by_value (AllDigits 10) tells_digits) digits all (omega arith) lead (omega (arith, inside.1)) in

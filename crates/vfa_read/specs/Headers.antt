@@ -1,5 +1,6 @@
 -- The header of a function, and the whole function, as readers (LLVM Language Reference, "Functions").
 use Rattle.std.specs.Prelude.{ℕ, zero, suc, ◌==◌, Bool, true, false, if◌then◌else◌, List, [], ◌∷◌, length, Option, Some, None, Result, Ok, Err, codes}
+use Rattle.std.specs.Str.{byte}
 use Rattle.vfa_ir.specs.declared.syntax.BasicBlock.{BasicBlock}
 use Rattle.vfa_ir.specs.declared.syntax.Parameter.{Parameter}
 use Rattle.vfa_ir.specs.Grammar.{may_follow_parameters}
@@ -20,7 +21,7 @@ abbrev pub optional_name : Reader (Option (List ℕ))
 optional_name = choose starts_name (made Some (one local_name)) (nothing None)
 
 abbrev pub parameter_of : ℕ × (List (List ℕ) × Option (List ℕ)) → Parameter
-parameter_of p = record { width = p.0; words = p.1.0; name = p.1.1 }
+parameter_of (width, (words, name)) = record { width = width; words = words; name = name }
 
 unfoldable pub parameter : Reader Parameter
 parameter = made parameter_of (after (one type_of) (λ _. after (words_among parameter_words) (λ _. optional_name)))
@@ -41,7 +42,7 @@ pub data Place : Type 0 where
 
 abbrev pub place_of : Lexeme → Place
 place_of (mark c) =
-    if c == 40 then opens else if c == 41 then closes else if may_follow_parameters (mark c) then stands else leaves
+    if c == byte "(" then opens else if c == byte ")" then closes else if may_follow_parameters (mark c) then stands else leaves
 place_of l = if may_follow_parameters l then stands else leaves
 
 abbrev pub tail_end : ℕ → List Lexeme → Result (List Lexeme × List Lexeme) ℕ
@@ -62,22 +63,22 @@ Header = List (List ℕ) × (ℕ × (List ℕ × List Parameter))
 
 unfoldable pub header : Reader Header
 header = skip (the_word (codes "define")) (after (words_among lead_words) (λ _. after (one type_of) (λ _. after (one global_name) (λ _.
-    skip (the_mark 40) (ended parameters (the_mark 41))))))
+    skip (the_mark (byte "(")) (ended parameters (the_mark (byte ")")))))))
 
 abbrev pub Body : Type 0
 Body = BasicBlock × List BasicBlock
 
 unfoldable pub body : Reader Body
-body = skip (the_mark 123) (ended (after (block_with entry_label) (λ _. further_blocks)) (the_mark 125))
+body = skip (the_mark (byte "{")) (ended (after (block_with entry_label) (λ _. further_blocks)) (the_mark (byte "}")))
 
 abbrev pub sentence_of : Header × (List Lexeme × Body) → Sentence
-sentence_of p = record {
-  lead = p.0.0;
-  width = p.0.1.0;
-  name = p.0.1.1.0;
-  parameters = p.0.1.1.1;
-  tail = p.1.0;
-  blocks = p.1.1.0 ∷ p.1.1.1;
+sentence_of ((lead, (width, (name, parameters))), (tail, (entry, blocks))) = record {
+  lead = lead;
+  width = width;
+  name = name;
+  parameters = parameters;
+  tail = tail;
+  blocks = entry ∷ blocks;
 }
 
 unfoldable pub sentence : Reader Sentence

@@ -1,5 +1,6 @@
 -- The productions as readers, each beside its section of the LLVM Language Reference.
 use Rattle.std.specs.Prelude.{ℕ, Bool, true, false, ◌==◌, ◌||◌, List, [], ◌∷◌, ◌++◌, map, Option, Some, None, codes, bytes_eq}
+use Rattle.std.specs.Str.{byte}
 use Rattle.vfa_ir.specs.declared.operations.Cast.{Cast}
 use Rattle.vfa_ir.specs.declared.operations.Pred.{Pred}
 use Rattle.vfa_ir.specs.declared.operations.Bin.{Bin}
@@ -37,20 +38,20 @@ is_mark c _ = false
 
 -- `, !kind !node`, any number of times
 abbrev pub attachment_of : List ℕ × List ℕ → Attachment
-attachment_of p = record { kind = p.0; node = p.1 }
+attachment_of (kind, node) = record { kind = kind; node = node }
 
 unfoldable pub metadata_pair : Reader Attachment
 metadata_pair = made attachment_of (after (one metadata_kind) (λ _. one metadata_node))
 
 unfoldable pub attachment : Reader Attachment
-attachment = skip (the_mark 44) metadata_pair
+attachment = skip (the_mark (byte ",")) metadata_pair
 
 -- one state for all items
 abbrev pub same_state : {A : Type 0} → Unit {0} → A → Unit {0}
 same_state s _ = s
 
 unfoldable pub attachments : Reader (List Attachment)
-attachments = many (is_mark 44) (λ _. attachment) same_state tt
+attachments = many (is_mark (byte ",")) (λ _. attachment) same_state tt
 
 -- words of a list
 abbrev pub is_word_among : List (List ℕ) → Lexeme → Bool
@@ -67,10 +68,10 @@ is_any_word _ = false
 
 -- items with commas between, where any begin
 abbrev pub listed : {A : Type 0} → A × List A → List A
-listed p = p.0 ∷ p.1
+listed (first, rest) = first ∷ rest
 
 abbrev pub after_commas : {A : Type 0} → Reader A → Reader (List A)
-after_commas item = many (is_mark 44) (λ _. skip (the_mark 44) item) same_state tt
+after_commas item = many (is_mark (byte ",")) (λ _. skip (the_mark (byte ",")) item) same_state tt
 
 abbrev pub comma_list : {A : Type 0} → (Lexeme → Bool) → Reader A → Reader (List A)
 comma_list starts item = choose starts (made listed (after item (λ _. after_commas item))) (nothing [])
@@ -81,10 +82,10 @@ target = skip (the_word (codes "label")) (one local_name)
 
 -- `V , V`, both of one width; with the type before the second too
 abbrev pub operands : ℕ → Reader (Written × Written)
-operands width = after (one (value_of width)) (λ _. skip (the_mark 44) (one (value_of width)))
+operands width = after (one (value_of width)) (λ _. skip (the_mark (byte ",")) (one (value_of width)))
 
 abbrev pub typed_operands : ℕ → Reader (Written × Written)
-typed_operands width = after (one (value_of width)) (λ _. skip (the_mark 44) (skip (the_type width) (one (value_of width))))
+typed_operands width = after (one (value_of width)) (λ _. skip (the_mark (byte ",")) (skip (the_type width) (one (value_of width))))
 
 abbrev pub is_word : List ℕ → Lexeme → Bool
 is_word text (word w) = bytes_eq w text
@@ -99,7 +100,7 @@ is_wrap_flag (word w) = bytes_eq w (codes "nuw") || bytes_eq w (codes "nsw")
 is_wrap_flag _ = false
 
 abbrev pub flag_list : List ℕ → Unit {0} × List (List ℕ) → List (List ℕ)
-flag_list first p = first ∷ p.1
+flag_list first (_, rest) = first ∷ rest
 
 abbrev pub flag_then : List ℕ → List ℕ → Reader (List (List ℕ))
 flag_then first second = made (flag_list first) (after (one (the_word first)) (λ _. optional_word second))
@@ -113,17 +114,17 @@ abbrev pub same_sign : Reader Bool
 same_sign = choose (is_word (codes "samesign")) (made (λ _. true) (one (the_word (codes "samesign")))) (nothing false)
 
 abbrev pub compare_of : Bool × (Pred × (ℕ × (Written × Written))) → Operation
-compare_of p = Operation.Compare p.0 p.1.0 p.1.1.0 p.1.1.1.0 p.1.1.1.1
+compare_of (samesign, (pred, (width, (a, b)))) = Operation.Compare samesign pred width a b
 
 unfoldable pub compare : Reader Operation
 compare = made compare_of (after same_sign (λ _. after (one (keyword_in pred_word preds)) (λ _. after (one type_of) operands)))
 
 -- "select Instruction"
 abbrev pub select_of : Written × (ℕ × (Written × Written)) → Operation
-select_of p = Operation.Select p.0 p.1.0 p.1.1.0 p.1.1.1
+select_of (c, (width, (a, b))) = Operation.Select c width a b
 
 unfoldable pub select : Reader Operation
-select = made select_of (skip (the_type 1) (after (one (value_of 1)) (λ _. skip (the_mark 44) (after (one type_of) typed_operands))))
+select = made select_of (skip (the_type 1) (after (one (value_of 1)) (λ _. skip (the_mark (byte ",")) (after (one type_of) typed_operands))))
 
 -- "Conversion Operations"
 abbrev pub cast_flags : Cast → Reader (List (List ℕ))
@@ -132,7 +133,7 @@ cast_flags Cast.Sext = nothing []
 cast_flags Cast.Trunc = wrap_flags
 
 abbrev pub convert_of : Cast → List (List ℕ) × (ℕ × (Written × ℕ)) → Operation
-convert_of cast p = Operation.Convert cast p.0 p.1.0 p.1.1.0 p.1.1.1
+convert_of cast (flags, (from, (a, to))) = Operation.Convert cast flags from a to
 
 unfoldable pub converted : Reader (ℕ × (Written × ℕ))
 converted = after (one type_of) (λ width. after (one (value_of width)) (λ _. skip (the_word (codes "to")) (one type_of)))
@@ -142,50 +143,50 @@ convert cast = made (convert_of cast) (after (cast_flags cast) (λ _. converted)
 
 -- "freeze Instruction"
 abbrev pub freeze_of : ℕ × Written → Operation
-freeze_of p = Operation.Freeze p.0 p.1
+freeze_of (width, a) = Operation.Freeze width a
 
 unfoldable pub freeze : Reader Operation
 freeze = made freeze_of (after (one type_of) (λ width. one (value_of width)))
 
 -- `{ iN, i1 }`
 unfoldable pub pair_type : Reader ℕ
-pair_type = skip (the_mark 123) (ended (ended (ended (one type_of) (the_mark 44)) (the_type 1)) (the_mark 125))
+pair_type = skip (the_mark (byte "{")) (ended (ended (ended (one type_of) (the_mark (byte ","))) (the_type 1)) (the_mark (byte "}")))
 
 -- "extractvalue Instruction"
 abbrev pub extract_of : ℕ × (List ℕ × ℕ) → Operation
-extract_of p = Operation.Extract p.0 p.1.0 p.1.1
+extract_of (width, (pair, index)) = Operation.Extract width pair index
 
 unfoldable pub extract : Reader Operation
-extract = made extract_of (after pair_type (λ _. after (one local_name) (λ _. skip (the_mark 44) (one part_index))))
+extract = made extract_of (after pair_type (λ _. after (one local_name) (λ _. skip (the_mark (byte ",")) (one part_index))))
 
 -- "ret Instruction", "br Instruction", "unreachable Instruction"
 abbrev pub return_of : ℕ × Written → TerminatorKind
-return_of p = TerminatorKind.Return p.0 p.1
+return_of (width, a) = TerminatorKind.Return width a
 
 unfoldable pub returned : Reader TerminatorKind
 returned = made return_of (after (one type_of) (λ width. one (value_of width)))
 
 abbrev pub condition_of : Written × (List ℕ × List ℕ) → TerminatorKind
-condition_of p = TerminatorKind.Condition p.0 p.1.0 p.1.1
+condition_of (c, (taken, fallen)) = TerminatorKind.Condition c taken fallen
 
 unfoldable pub condition : Reader TerminatorKind
-condition = made condition_of (skip (the_type 1) (after (one (value_of 1)) (λ _. skip (the_mark 44) (after target (λ _. skip (the_mark 44) target)))))
+condition = made condition_of (skip (the_type 1) (after (one (value_of 1)) (λ _. skip (the_mark (byte ",")) (after target (λ _. skip (the_mark (byte ",")) target)))))
 
 unfoldable pub branch : Reader TerminatorKind
 branch = choose (is_word (codes "label")) (made TerminatorKind.Always target) condition
 
 -- `( T V , T V )`
 abbrev pub arguments : ℕ → Reader (Written × Written)
-arguments width = skip (the_mark 40) (skip (the_type width) (ended (typed_operands width) (the_mark 41)))
+arguments width = skip (the_mark (byte "(")) (skip (the_type width) (ended (typed_operands width) (the_mark (byte ")"))))
 
 -- the literal of an intrinsic with a second argument of type i1
 abbrev pub strict_argument : Fun1 → Reader (Option Literal)
 strict_argument Fun1.Ctpop = nothing None
-strict_argument _ = made Some (skip (the_mark 44) (skip (the_type 1) (one (literal_of 1))))
+strict_argument _ = made Some (skip (the_mark (byte ",")) (skip (the_type 1) (one (literal_of 1))))
 
 -- `( T V )` or `( T V , i1 L )`
 abbrev pub argument : ℕ → Fun1 → Reader (Written × Option Literal)
-argument width fun = skip (the_mark 40) (skip (the_type width) (ended (after (one (value_of width)) (λ _. strict_argument fun)) (the_mark 41)))
+argument width fun = skip (the_mark (byte "(")) (skip (the_type width) (ended (after (one (value_of width)) (λ _. strict_argument fun)) (the_mark (byte ")"))))
 
 -- `#4`, any number of times
 abbrev pub is_group : Lexeme → Bool
@@ -200,29 +201,29 @@ abbrev pub words_of : Option (List ℕ) → List (List ℕ) → CallWords
 words_of marker digits = record { marker = marker; groups = digits }
 
 abbrev pub two_of : Option (List ℕ) → ℕ → Fun2 → (Written × Written) × List (List ℕ) → Operation
-two_of marker width fun p = Operation.Two (words_of marker p.1) fun width p.0.0 p.0.1
+two_of marker width fun ((a, b), digits) = Operation.Two (words_of marker digits) fun width a b
 
 unfoldable pub two_call : Option (List ℕ) → ℕ → Fun2 → Reader Operation
 two_call marker width fun = made (two_of marker width fun) (after (arguments width) (λ _. groups))
 
 abbrev pub one_of : Option (List ℕ) → ℕ → Fun1 → (Written × Option Literal) × List (List ℕ) → Operation
-one_of marker width fun p = Operation.One (words_of marker p.1) fun width p.0.0 p.0.1
+one_of marker width fun ((a, strict), digits) = Operation.One (words_of marker digits) fun width a strict
 
 unfoldable pub one_call : Option (List ℕ) → ℕ → Fun1 → Reader Operation
 one_call marker width fun = made (one_of marker width fun) (after (argument width fun) (λ _. groups))
 
 -- a call of a function that is no intrinsic, after its name
 abbrev pub argument_of : ℕ × (List (List ℕ) × Written) → Argument
-argument_of p = record { width = p.0; words = p.1.0; value = p.1.1 }
+argument_of (width, (words, value)) = record { width = width; words = words; value = value }
 
 unfoldable pub call_argument : Reader Argument
 call_argument = made argument_of (after (one type_of) (λ width. after (words_among parameter_words) (λ _. one (value_of width))))
 
 unfoldable pub call_arguments : Reader (List Argument)
-call_arguments = skip (the_mark 40) (ended (comma_list is_any_word call_argument) (the_mark 41))
+call_arguments = skip (the_mark (byte "(")) (ended (comma_list is_any_word call_argument) (the_mark (byte ")")))
 
 abbrev pub other_of : Option (List ℕ) → List (List ℕ) → Option ℕ → List ℕ → List Argument × List (List ℕ) → Operation
-other_of marker words width name p = Operation.Call (words_of marker p.1) words width name p.0
+other_of marker words width name (arguments, digits) = Operation.Call (words_of marker digits) words width name arguments
 
 unfoldable pub other_call : Option (List ℕ) → List (List ℕ) → Option ℕ → List ℕ → Reader Operation
 other_call marker words width name = made (other_of marker words width name) (after call_arguments (λ _. groups))
@@ -234,39 +235,39 @@ callee_call marker words width (Callee.Known (Intrinsic.One fun)) = one_call mar
 callee_call marker words width (Callee.Other name) = other_call marker words (Some width) name
 
 abbrev pub named_of : ℕ × (Callee × Operation) → Operation
-named_of p = p.1.1
+named_of (_, (_, op)) = op
 
 abbrev pub named_call : Option (List ℕ) → List (List ℕ) → Reader Operation
 named_call marker words = made named_of (after (one type_of) (λ width. after (one (callee_after words width)) (callee_call marker words width)))
 
 abbrev pub last_of : List (List ℕ) × Operation → Operation
-last_of p = p.1
+last_of (_, op) = op
 
 unfoldable pub plain_call : Option (List ℕ) → Reader Operation
 plain_call marker = made last_of (after (words_among call_words) (named_call marker))
 
 abbrev pub over_of : Option (List ℕ) → ℕ × (Over × ((Written × Written) × List (List ℕ))) → Operation
-over_of marker p = Operation.Over (words_of marker p.1.1.1) p.1.0 p.0 p.1.1.0.0 p.1.1.0.1
+over_of marker (width, (over, ((a, b), digits))) = Operation.Over (words_of marker digits) over width a b
 
 unfoldable pub over_call : Option (List ℕ) → Reader Operation
 over_call marker = made (over_of marker) (after pair_type (λ width. after (one (callee_in over_word overs width)) (λ _. after (arguments width) (λ _. groups))))
 
 unfoldable pub call : Option (List ℕ) → Reader Operation
-call marker = choose (is_mark 123) (over_call marker) (plain_call marker)
+call marker = choose (is_mark (byte "{")) (over_call marker) (plain_call marker)
 
 -- a call without a result: of `llvm.assume`, or of a function that is no intrinsic
 abbrev pub assume_of : Option (List ℕ) → Written × List (List ℕ) → Operation
-assume_of marker p = Operation.Assume (words_of marker p.1) p.0
+assume_of marker (c, digits) = Operation.Assume (words_of marker digits) c
 
 unfoldable pub assume_call : Option (List ℕ) → Reader Operation
-assume_call marker = made (assume_of marker) (after (skip (the_mark 40) (skip (the_type 1) (ended (one (value_of 1)) (the_mark 41)))) (λ _. groups))
+assume_call marker = made (assume_of marker) (after (skip (the_mark (byte "(")) (skip (the_type 1) (ended (one (value_of 1)) (the_mark (byte ")"))))) (λ _. groups))
 
 abbrev pub void_callee_call : Option (List ℕ) → List (List ℕ) → VoidCallee → Reader Operation
 void_callee_call marker words VoidCallee.Assume = assume_call marker
 void_callee_call marker words (VoidCallee.Other name) = other_call marker words None name
 
 abbrev pub void_of : List (List ℕ) × (VoidCallee × Operation) → Operation
-void_of p = p.1.1
+void_of (_, (_, op)) = op
 
 abbrev pub void_named : Option (List ℕ) → List (List ℕ) → Reader (VoidCallee × Operation)
 void_named marker words = skip (the_word (codes "void")) (after (one (void_after words)) (void_callee_call marker words))
@@ -288,27 +289,27 @@ flags Bin.Or = optional_word (codes "disjoint")
 flags _ = nothing []
 
 abbrev pub binary_of : Bin → List (List ℕ) × (ℕ × (Written × Written)) → Operation
-binary_of bin p = Operation.Binary bin p.0 p.1.0 p.1.1.0 p.1.1.1
+binary_of bin (flags, (width, (a, b))) = Operation.Binary bin flags width a b
 
 unfoldable pub binary : Bin → Reader Operation
 binary bin = made (binary_of bin) (after (flags bin) (λ _. after (one type_of) operands))
 
 -- "switch Instruction"
 abbrev pub case_of : Literal × List ℕ → SwitchCase
-case_of p = record { number = p.0; block = p.1 }
+case_of (number, block) = record { number = number; block = block }
 
 unfoldable pub switch_case : ℕ → Reader SwitchCase
-switch_case width = made case_of (skip (the_type width) (after (one (literal_of width)) (λ _. skip (the_mark 44) target)))
+switch_case width = made case_of (skip (the_type width) (after (one (literal_of width)) (λ _. skip (the_mark (byte ",")) target)))
 
 unfoldable pub switch_cases : ℕ → Reader (List SwitchCase)
 switch_cases width = many is_any_word (λ _. switch_case width) same_state tt
 
 abbrev pub switch_of : ℕ × (Written × (List ℕ × List SwitchCase)) → TerminatorKind
-switch_of p = TerminatorKind.Switch p.0 p.1.0 p.1.1.0 p.1.1.1
+switch_of (width, (on, (other, cases))) = TerminatorKind.Switch width on other cases
 
 unfoldable pub switch : Reader TerminatorKind
-switch = made switch_of (after (one type_of) (λ width. after (one (value_of width)) (λ _. skip (the_mark 44) (after target (λ _.
-    skip (the_mark 91) (ended (switch_cases width) (the_mark 93)))))))
+switch = made switch_of (after (one type_of) (λ width. after (one (value_of width)) (λ _. skip (the_mark (byte ",")) (after target (λ _.
+    skip (the_mark (byte "[")) (ended (switch_cases width) (the_mark (byte "]"))))))))
 
 -- the word that an operation begins with
 abbrev pub form_word : Form → List ℕ
@@ -344,7 +345,7 @@ form_rest Form.Notail = marked_call (codes "notail")
 
 -- an operation that has a result
 abbrev pub formed : Form × Operation → Operation
-formed p = p.1
+formed (_, op) = op
 
 unfoldable pub operation : Reader Operation
 operation = made formed (after (one (keyword_in form_word forms)) form_rest)
@@ -366,47 +367,48 @@ ending_rest Ending.Switch = switch
 ending_rest Ending.Unreachable = nothing TerminatorKind.Unreachable
 
 abbrev pub ended_by : Ending × TerminatorKind → TerminatorKind
-ended_by p = p.1
+ended_by (_, kind) = kind
 
 unfoldable pub terminator_kind : Reader TerminatorKind
 terminator_kind = made ended_by (after (one (keyword_in ending_word endings)) ending_rest)
 
 abbrev pub terminator_of : TerminatorKind × List Attachment → Terminator
-terminator_of p = record { kind = p.0; attached = p.1 }
+terminator_of (kind, attached) = record { kind = kind; attached = attached }
 
 unfoldable pub terminator : Reader Terminator
 terminator = made terminator_of (after terminator_kind (λ _. attachments))
 
 -- "phi Instruction"
 abbrev pub incoming_of : Written × List ℕ → Incoming
-incoming_of p = record { value = p.0; block = p.1 }
+incoming_of (value, block) = record { value = value; block = block }
 
 unfoldable pub incoming : ℕ → Reader Incoming
-incoming width = made incoming_of (skip (the_mark 91) (ended (after (one (value_of width)) (λ _. skip (the_mark 44) (one local_name))) (the_mark 93)))
+incoming width = made incoming_of (skip (the_mark (byte "[")) (ended (after (one (value_of width)) (λ _. skip (the_mark (byte ",")) (one local_name))) (the_mark (byte "]"))))
 
 abbrev pub part_reader : ℕ → Bool → Reader PhiPart
-part_reader width true = choose (is_mark 91) (made PhiPart.Entry (incoming width)) (made PhiPart.Attached metadata_pair)
+part_reader width true = choose (is_mark (byte "[")) (made PhiPart.Entry (incoming width)) (made PhiPart.Attached metadata_pair)
 part_reader width false = made PhiPart.Attached metadata_pair
 
 unfoldable pub phi_part : ℕ → Bool → Reader PhiPart
-phi_part width operands = skip (the_mark 44) (part_reader width operands)
+phi_part width operands = skip (the_mark (byte ",")) (part_reader width operands)
 
 abbrev pub still_operands : Bool → PhiPart → Bool
 still_operands operands (PhiPart.Entry _) = operands
 still_operands operands (PhiPart.Attached _) = false
 
 unfoldable pub phi_parts : ℕ → Bool → Reader (List PhiPart)
-phi_parts width operands = many (is_mark 44) (phi_part width) still_operands operands
+phi_parts width operands = many (is_mark (byte ",")) (phi_part width) still_operands operands
 
 abbrev pub phi_of : List ℕ → ℕ × (Incoming × List PhiPart) → Line
-phi_of result p = Line.Phi (record { result = result; width = p.0; entries = p.1.0 ∷ entries_of p.1.1; attached = attachments_of p.1.1 })
+phi_of result (width, (first, parts)) =
+    Line.Phi (record { result = result; width = width; entries = first ∷ entries_of parts; attached = attachments_of parts })
 
 unfoldable pub phi_rest : List ℕ → Reader Line
 phi_rest result = made (phi_of result) (after (one type_of) (λ width. after (incoming width) (λ _. phi_parts width true)))
 
 -- the lines of a block
 abbrev pub plain_of : Option (List ℕ) → Operation × List Attachment → Line
-plain_of result p = Line.Plain (record { result = result; operation = p.0; attached = p.1 })
+plain_of result (op, attached) = Line.Plain (record { result = result; operation = op; attached = attached })
 
 unfoldable pub plain_rest : List ℕ → Reader Line
 plain_rest result = made (plain_of (Some result)) (after operation (λ _. attachments))
@@ -416,10 +418,10 @@ defined_rest true result = choose (is_word (codes "phi")) (skip (the_word (codes
 defined_rest false result = plain_rest result
 
 abbrev pub defined_of : List ℕ × Line → Line
-defined_of p = p.1
+defined_of (_, line) = line
 
 unfoldable pub defined_line : Bool → Reader Line
-defined_line phis = made defined_of (after (one local_name) (λ result. skip (the_mark 61) (defined_rest phis result)))
+defined_line phis = made defined_of (after (one local_name) (λ result. skip (the_mark (byte "=")) (defined_rest phis result)))
 
 abbrev pub marker_word : Reader (List ℕ)
 marker_word = choose (is_word (codes "tail")) (made (λ _. codes "tail") (one (the_word (codes "tail")))) (made (λ _. codes "notail") (one (the_word (codes "notail"))))
@@ -428,7 +430,7 @@ unfoldable pub call_marker : Reader (Option (List ℕ))
 call_marker = choose (is_word (codes "call")) (made (λ _. None) (one (the_word (codes "call")))) (made Some (ended marker_word (the_word (codes "call"))))
 
 abbrev pub void_line_of : Option (List ℕ) × (Operation × List Attachment) → Line
-void_line_of p = plain_of None p.1
+void_line_of (_, rest) = plain_of None rest
 
 unfoldable pub void_line : Reader Line
 void_line = made void_line_of (after call_marker (λ marker. after (void_call marker) (λ _. attachments)))
@@ -466,7 +468,7 @@ starts_label nameless_label = true
 starts_label _ = false
 
 abbrev pub block_of : Option (List ℕ) × (BlockLines × Terminator) → BasicBlock
-block_of p = record { label = p.0; phis = p.1.0.phis; instructions = p.1.0.instructions; terminator = p.1.1 }
+block_of (name, (read, end)) = record { label = name; phis = read.phis; instructions = read.instructions; terminator = end }
 
 abbrev pub block_labelled : Option (List ℕ) → BlockLines × Terminator → BasicBlock
 block_labelled name p = block_of (name, p)

@@ -1,4 +1,4 @@
--- Readers: what stands at the front of a list of lexemes and the lexemes behind it, or how many lexemes are left at the
+-- Readers: what stands at the beginning of a list of lexemes and the lexemes after it, or how many lexemes are left at the
 -- first one that cannot stand there.
 use Rattle.std.specs.Prelude.{◌≡◌, drop, ℕ, zero, suc, Bool, false, if◌then◌else◌, List, [], ◌∷◌, length, Option, Some, None, Result, Ok, Err}
 use Rattle.vfa_ir.specs.Lexemes.{Lexeme}
@@ -25,7 +25,7 @@ one table (l ∷ rest) = given (table l) rest
 abbrev pub nothing : {A : Type 0} → A → Reader A
 nothing x ts = Ok (x, ts)
 
--- one behind the other, which may depend on it
+-- one after the other, which may depend on it
 abbrev pub after : {A B : Type 0} → Reader A → (A → Reader B) → Reader (A × B)
 after first second ts = first ts >>= λ p. second p.0 p.1 >>= λ q. Ok ((p.0, q.0), q.1)
 
@@ -33,7 +33,7 @@ after first second ts = first ts >>= λ p. second p.0 p.1 >>= λ q. Ok ((p.0, q.
 abbrev pub made : {A B : Type 0} → (A → B) → Reader A → Reader B
 made f read ts = read ts >>= λ p. Ok (f p.0, p.1)
 
--- behind a lexeme that tells nothing, or before one
+-- after a lexeme that tells nothing, or before one
 abbrev pub skip : {A : Type 0} → (Lexeme → Option (Unit {0})) → Reader A → Reader A
 skip table read ts = one table ts >>= λ p. read p.1
 
@@ -59,7 +59,7 @@ repeated starts item step (suc n) s ts =
 abbrev pub many : {S A : Type 0} → (Lexeme → Bool) → (S → Reader A) → (S → A → S) → S → Reader (List A)
 many starts item step s ts = repeated starts item step (length ts) s ts
 
--- What a function returns, where all are the lexemes of the text: the value and the place behind it, or the place of
+-- What a function returns, where all are the lexemes of the text: the value and the place after it, or the place of
 -- the first lexeme that cannot stand there, unless memory ran out.
 abbrev pub Gives : {A : Type 0} → List Lexeme → Result (A × ℕ) Stop → Result (A × List Lexeme) ℕ → Type 0
 Gives all (Ok p) read = read ≡ Ok (p.0, drop p.1 all)

@@ -67,7 +67,7 @@ IsRepeated old names Outside.Memory = Unit {0}
 IsRepeated old names (Outside.Duplicate name) = (more : List (List ℕ)) → first_repeated (defined_in old) (names ++ more) ≡ Some name
 IsRepeated old names _ = ⊥
 
--- the error for the first name that is defined a second time; want of memory aside
+-- the error for the first name that is defined a second time; out of memory aside
 abbrev pub IsDuplicate : Option (List ℕ) → Outside → Type 0
 IsDuplicate found Outside.Memory = Unit {0}
 IsDuplicate found (Outside.Duplicate name) = found ≡ Some name
@@ -77,7 +77,7 @@ IsDuplicate found _ = ⊥
 abbrev pub unknown_in : Scope → List Use → Option (List ℕ)
 unknown_in scope uses = first_unknown scope.values scope.blocks uses
 
--- the error for it; want of memory aside
+-- the error for it; out of memory aside
 abbrev pub IsUnknown : Option (List ℕ) → Outside → Type 0
 IsUnknown found Outside.Memory = Unit {0}
 IsUnknown found (Outside.Unknown name) = found ≡ Some name

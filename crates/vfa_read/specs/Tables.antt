@@ -1,6 +1,7 @@
 -- The lexemes that stand for something alone, and what they stand for.
 use Rattle.std.specs.Prelude.{ℕ, ◌-◌, ◌^◌, Bool, true, false, not, ◌&&◌, ◌==◌, nat_lt, nat_le, if◌then◌else◌, List, [], ◌∷◌, ◌++◌, map, find, Option, Some, None, option_map, codes, bytes_eq}
 use Rattle.std.specs.Str.Parse.{digits_value}
+use Rattle.std.specs.Str.{byte}
 use Rattle.vfa_ir.specs.declared.syntax.Literal.{Literal}
 use Rattle.vfa_ir.specs.declared.syntax.Written.{Written}
 use Rattle.vfa_read.specs.declared.intrinsics.Callee.{Callee}
@@ -50,25 +51,25 @@ abbrev pub keyword_in : {K : Type 0} → (K → List ℕ) → List K → Lexeme 
 keyword_in spelled all (word w) = keyword spelled all w
 keyword_in spelled all _ = None
 
--- whether digits, perhaps behind a `-`, are a number of the range of a width
+-- whether digits, perhaps after a `-`, are a number of the range of a width
 abbrev pub fits_number : ℕ → List ℕ → Bool
 fits_number width [] = false
 fits_number width (c ∷ digits) =
-    if c == 45 then is_digits digits && nat_le (digits_value 10 digits) (2 ^ (width - 1))
+    if c == byte "-" then is_digits digits && nat_le (digits_value 10 digits) (2 ^ (width - 1))
     else is_digits (c ∷ digits) && nat_lt (digits_value 10 (c ∷ digits)) (2 ^ width)
 
 -- the width of `iN`
 abbrev pub width_in_range : ℕ → Option ℕ
 width_in_range n = if nat_le 1 n && nat_le n 128 then Some n else None
 
--- digits without a zero in front
+-- digits without a zero at the beginning
 abbrev pub is_numeral : List ℕ → Bool
 is_numeral [] = false
-is_numeral (c ∷ cs) = is_digits (c ∷ cs) && not (c == 48)
+is_numeral (c ∷ cs) = is_digits (c ∷ cs) && not (c == byte "0")
 
 abbrev pub type_width : List ℕ → Option ℕ
 type_width [] = None
-type_width (c ∷ digits) = if c == 105 && is_numeral digits then width_in_range (digits_value 10 digits) else None
+type_width (c ∷ digits) = if c == byte "i" && is_numeral digits then width_in_range (digits_value 10 digits) else None
 
 abbrev pub type_of : Lexeme → Option ℕ
 type_of (word w) = type_width w

@@ -1,6 +1,7 @@
 //! Readers of calls, after the word `call`.
 
 ghost use Rattle.std.specs.Prelude.{◌≡◌, ◌≤◌, ◌∷◌, drop};
+ghost use Rattle.std.specs.Str.{byte};
 ghost use Rattle.vfa_ir.specs.Words.{over_word, overs};
 ghost use Rattle.vfa_read.specs.Productions.{after_commas, arguments, argument, assume_call, call, call_argument, call_arguments, callee_call, comma_list, groups, is_any_word, is_group, named_call, one_call, other_call, over_call, plain_call, strict_argument, two_call, void_call, void_callee_call};
 ghost use Rattle.vfa_read.specs.Readers.{Gives, made, next_passes, one, skip};
@@ -229,7 +230,7 @@ impl<'a> Source<'a> {
 
     /// A comma and an argument.
     fn further_argument(&self, alloc: Global, at: usize) -> Result<(Argument, usize), Stop>
-        ensures { Gives (all_of self.now) result (skip (the_mark 44) call_argument (drop at (all_of self.now))) }
+        ensures { Gives (all_of self.now) result (skip (the_mark (byte ",")) call_argument (drop at (all_of self.now))) }
     {
         let at = self.mark(at, b',')?;
         self.call_argument(alloc, at)

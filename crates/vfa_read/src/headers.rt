@@ -1,6 +1,7 @@
 //! Readers of the header of a function.
 
 ghost use Rattle.std.specs.Prelude.{◌≡◌, ◌∷◌, drop};
+ghost use Rattle.std.specs.Str.{byte};
 ghost use Rattle.vfa_read.specs.Headers.{starts_name, optional_name, parameter, parameters, header};
 ghost use Rattle.vfa_read.specs.Productions.{after_commas};
 ghost use Rattle.vfa_read.specs.Readers.{Gives, made, skip, next_passes};
@@ -61,7 +62,7 @@ impl<'a> Source<'a> {
 
     /// `, T %name`
     fn further_parameter(&self, alloc: Global, at: usize) -> Result<(Parameter, usize), Stop>
-        ensures { Gives (all_of self.now) result (skip (the_mark 44) parameter (drop at (all_of self.now))) }
+        ensures { Gives (all_of self.now) result (skip (the_mark (byte ",")) parameter (drop at (all_of self.now))) }
     {
         let at = self.mark(at, b',')?;
         self.parameter(alloc, at)

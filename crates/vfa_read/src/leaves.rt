@@ -7,12 +7,12 @@ ghost use Rattle.vfa_read.specs.Seen.{all_of};
 ghost use Rattle.vfa_read.specs.Tables.{the_mark, the_word, keyword_in, local_name, global_name, label_name, group_digits, metadata_kind, metadata_node, type_of, the_type, part_index, literal_of, value_of, literal_word as word_literal};
 
 use crate::names::written_name;
-use crate::numbers::{fits_number, is_digits, is_number, type_width};
+use crate::numbers::{fits_number, type_width};
 use crate::source::{Seen, Source};
 use crate::stops::Stop;
 use std::alloc::Global;
 use vfa_ir::syntax::{Literal, Written};
-use vfa_ir::{Name, Pred, keyword_of};
+use vfa_ir::{Name, Pred, is_digits, is_number, keyword_of};
 
 /// Whether two texts are the same.
 pub fn same(text: &[u8], other: &[u8]) -> bool

@@ -31,3 +31,4 @@ pub use definedness::{defined_once, first_defined_again, first_undefined, used_d
 pub use laws::{one_reading, one_tree, sentence_or_shape};
 pub use names::token_name;
 pub use reading::{ReadFunction, read_function};
+pub use resolution::Symbols;

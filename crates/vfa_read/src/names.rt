@@ -1,25 +1,18 @@
 //! Names as written: plain, or in quotes.
 
 ghost use Rattle.std.specs.Prelude.{IsTrue, ◌<◌, ◌≡◌, ◌≤◌, [], ◌∷◌, ◌++◌, length, IfOk};
-ghost use Rattle.vfa_ir.specs.Names.{bytes_of_name as name_bytes, decoded, is_hex_digit, hex_value, token_name as name_of_token, written_name as name_part};
+ghost use Rattle.std.specs.Char.{is_ascii_hexdigit};
+ghost use Rattle.vfa_ir.specs.Names.{bare_text, bytes_of_name as name_bytes, decoded, hex_value, token_name as name_of_token};
 ghost use Rattle.vfa_ir.specs.TokenLexemes.{written_name as name_written, quoted_name as name_quoted};
 
-use crate::numbers::is_digits;
 use crate::source::{after_first, between, first, without_last};
 use std::alloc::{AllocError, Global};
-use vfa_ir::{Name, Token, TokenKind};
-
-#[tactic(auto, unfolding(vfa_ir::specs::Names::is_hex_digit, vfa_ir::specs::Tokens::is_digit))]
-fn is_hexadecimal(digit: u8) -> bool
-    ensures { result ≡ is_hex_digit digit }
-{
-    digit.is_ascii_hexdigit()
-}
+use vfa_ir::{Name, Token, TokenKind, is_digits};
 
 /// The value of a hexadecimal digit.
-#[tactic(auto, unfolding(vfa_ir::specs::Names::is_hex_digit, vfa_ir::specs::Names::hex_value, vfa_ir::specs::Tokens::is_digit))]
+#[tactic(auto, unfolding(vfa_ir::specs::Names::hex_value))]
 fn hexadecimal(digit: u8) -> u8
-    requires { IsTrue (is_hex_digit digit) }
+    requires { IsTrue (is_ascii_hexdigit digit) }
     ensures value { result ≡ hex_value digit }
     ensures below { result < 16 }
 {
@@ -50,10 +43,10 @@ fn piece<'a>(byte: u8, after: &'a [u8]) -> (u8, &'a [u8])
     let Some((third, last)) = first(rest) else {
         return (byte, after);
     };
-    if !is_hexadecimal(second) {
+    if !second.is_ascii_hexdigit() {
         return (byte, after);
     }
-    if !is_hexadecimal(third) {
+    if !third.is_ascii_hexdigit() {
         return (byte, after);
     }
     (16 * hexadecimal(second) + hexadecimal(third), last)
@@ -113,8 +106,8 @@ fn bytes_of_name(alloc: Global, written: &[u8]) -> Result<Name, AllocError>
 }
 
 /// The run or the string of a token, without its sign or its colon.
-fn name_part_of<'a>(bytes: &'a [u8], token: &Token) -> &'a [u8]
-    ensures { result.now ≡ name_part bytes.now token.now }
+fn bare_text_of<'a>(bytes: &'a [u8], token: &Token) -> &'a [u8]
+    ensures { result.now ≡ bare_text bytes.now token.now }
 {
     let text = between(bytes, token.start, token.end);
     match token.kind {
@@ -133,5 +126,5 @@ fn name_part_of<'a>(bytes: &'a [u8], token: &Token) -> &'a [u8]
 pub fn token_name(alloc: Global, bytes: &[u8], token: &Token) -> Result<Name, AllocError>
     ensures { IfOk result (λ name. name ≡ name_of_token bytes.now token.now) }
 {
-    bytes_of_name(alloc, name_part_of(bytes, token))
+    bytes_of_name(alloc, bare_text_of(bytes, token))
 }

@@ -1,10 +1,8 @@
 //! Numbers as written.
 
 ghost use Rattle.std.specs.Prelude.{◌≡◌, ◌≤◌, ◌^◌, ◌⊎◌, true, false, MatchOption, IfSome};
-ghost use Rattle.std.specs.Char.{is_ascii_digit};
-ghost use Rattle.std.specs.List.{list_all};
 ghost use Rattle.std.specs.Str.Parse.{digits_value};
-ghost use Rattle.vfa_ir.specs.Words.{is_digits as are_digits, is_number as are_number};
+ghost use Rattle.vfa_ir.specs.Words.{is_digits as are_digits};
 ghost use Rattle.vfa_read.specs.Tables.{fits_number as number_fits, type_width as width_of_type};
 
 use crate::source::first;
@@ -76,33 +74,4 @@ pub fn type_width(text: &[u8]) -> Option<u32>
         return None;
     }
     Some(number as u32)
-}
-
-fn all_digits(text: &[u8]) -> bool
-    ensures { result ≡ list_all is_ascii_digit text.now }
-{
-    text.iter().all(|byte| byte.is_ascii_digit())
-}
-
-/// Whether the text is digits alone.
-pub fn is_digits(text: &[u8]) -> bool
-    ensures { result ≡ are_digits text.now }
-{
-    let Some(_) = first(text) else {
-        return false;
-    };
-    all_digits(text)
-}
-
-/// Whether the text is digits, perhaps after a `-`.
-pub fn is_number(text: &[u8]) -> bool
-    ensures { result ≡ are_number text.now }
-{
-    let Some((byte, after)) = first(text) else {
-        return false;
-    };
-    if is_digits(text) {
-        return true;
-    }
-    byte == b'-' && is_digits(after)
 }

@@ -15,3 +15,4 @@ mod values;
 
 pub use functions::function_of;
 pub use limits::too_many;
+pub use symbols::Symbols;

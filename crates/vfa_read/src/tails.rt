@@ -6,7 +6,7 @@ ghost use Rattle.vfa_ir.specs.Grammar.{may_follow_parameters};
 ghost use Rattle.vfa_read.specs.Headers.{tail_from};
 ghost use Rattle.vfa_read.specs.Readers.{next_passes};
 ghost use Rattle.vfa_read.specs.Seen.{all_of, seen_lexeme};
-ghost use Rattle.vfa_read.specs.Trees.{Passes, open_after};
+ghost use Rattle.vfa_read.specs.Trees.{GivesEnd, open_after};
 
 use crate::source::{Seen, Source, between};
 use crate::stops::Stop;
@@ -59,7 +59,7 @@ impl<'a> Source<'a> {
 
     /// The place after what stands between the parameters and the body.
     pub fn tail(&self, from: usize) -> Result<usize, Stop>
-        ensures { Passes from (all_of self.now) result (tail_from 0 (drop from (all_of self.now))) }
+        ensures { GivesEnd from (all_of self.now) result (tail_from 0 (drop from (all_of self.now))) }
     {
         let mut at = from;
         let mut depth = 0;

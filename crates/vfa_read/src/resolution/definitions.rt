@@ -2,6 +2,7 @@
 
 ghost use Rattle.std.specs.Prelude.{◌≡◌, ◌≤◌, None, length, count_by, IfOk, IfErr};
 ghost use Rattle.vfa_ir.specs.DefinedNames.{duplicate_of, is_numbered as parameter_is_numbered, value_names};
+ghost use Rattle.vfa_ir.specs.Limits.{most_blocks, most_names};
 ghost use Rattle.vfa_ir.specs.Resolution.{scope_of};
 ghost use Rattle.vfa_read.specs.Resolving.{tree, IsDuplicate};
 
@@ -26,8 +27,8 @@ pub fn symbols_of(
     parameters: &[Parameter],
     blocks: &[BasicBlock],
 ) -> Result<SymbolTable, Outside>
-    requires names { length (value_names (tree parameters.now blocks.now)) ≤ 4096 }
-    requires blocks { length blocks.now ≤ 1024 }
+    requires names { length (value_names (tree parameters.now blocks.now)) ≤ most_names }
+    requires blocks { length blocks.now ≤ most_blocks }
     ensures distinct { IfOk result (λ _. duplicate_of (tree parameters.now blocks.now) ≡ None) }
     ensures scope { IfOk result (λ t. t ≡ scope_of (tree parameters.now blocks.now)) }
     ensures repeated { IfErr result (λ e. IsDuplicate (duplicate_of (tree parameters.now blocks.now)) e) }

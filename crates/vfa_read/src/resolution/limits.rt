@@ -3,17 +3,12 @@
 ghost use Rattle.std.specs.Prelude.{◌≡◌, ◌<◌, ◌+◌, length, filter_map, MatchOption, nat_lt};
 ghost use Rattle.std.specs.List.{list_any};
 ghost use Rattle.vfa_ir.specs.DefinedNames.{block_results, value_names};
+ghost use Rattle.vfa_ir.specs.Limits.{most_cases, most_names};
 ghost use Rattle.vfa_ir.specs.Reads.{cases_of, too_many as tree_has_too_many};
 ghost use Rattle.vfa_read.specs.Resolving.{tree};
 
-use vfa_ir::Kind;
 use vfa_ir::syntax::{BasicBlock, Instruction, Parameter, TerminatorKind};
-
-const MOST_NAMES: usize = 4096;
-
-const MOST_BLOCKS: usize = 1024;
-
-const MOST_CASES: usize = 1024;
+use vfa_ir::{Kind, MOST_BLOCKS, MOST_CASES, MOST_NAMES};
 
 /// How many instructions have a result.
 fn result_count(instructions: &[Instruction]) -> usize
@@ -38,7 +33,7 @@ fn room_after(room: usize, block: &BasicBlock) -> Option<usize>
 
 /// Whether there are too many parameters and results.
 fn passes_names(parameters: &[Parameter], blocks: &[BasicBlock]) -> bool
-    ensures { result ≡ nat_lt 4096 (length (value_names (tree parameters.now blocks.now))) }
+    ensures { result ≡ nat_lt most_names (length (value_names (tree parameters.now blocks.now))) }
 {
     if parameters.len() > MOST_NAMES {
         return true;
@@ -54,7 +49,7 @@ fn passes_names(parameters: &[Parameter], blocks: &[BasicBlock]) -> bool
 }
 
 fn has_too_many_cases(block: &BasicBlock) -> bool
-    ensures { result ≡ nat_lt 1024 (cases_of block.now.terminator.kind) }
+    ensures { result ≡ nat_lt most_cases (cases_of block.now.terminator.kind) }
 {
     match &block.terminator.kind {
         TerminatorKind::Switch { cases, .. } => cases.as_slice().len() > MOST_CASES,
@@ -64,7 +59,7 @@ fn has_too_many_cases(block: &BasicBlock) -> bool
 
 /// Whether some switch has too many cases.
 fn passes_cases(blocks: &[BasicBlock]) -> bool
-    ensures { result ≡ list_any (λ b. nat_lt 1024 (cases_of b.terminator.kind)) blocks.now }
+    ensures { result ≡ list_any (λ b. nat_lt most_cases (cases_of b.terminator.kind)) blocks.now }
 {
     blocks.iter().any(|block| has_too_many_cases(block))
 }

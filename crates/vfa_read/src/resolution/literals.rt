@@ -19,17 +19,17 @@ fn greatest(width: u32) -> u128
     (1 << width) - 1
 }
 
-/// The bits of a number, perhaps behind a `-`, of the range of the width.
+/// The bits of a number, perhaps after a `-`, of the range of the width.
 fn number_bits(text: &[u8], width: u32) -> u128
     requires width { IsWidth width }
     requires fits { IsNumberOf width text.now }
     ensures { result ≡ bits_of width (number_value text.now) }
 {
-    let Some((byte, behind)) = first(text) else {
+    let Some((byte, after)) = first(text) else {
         return 0;
     };
     if byte == b'-' {
-        let Some(number) = magnitude(behind) else {
+        let Some(number) = magnitude(after) else {
             return 0;
         };
         if number == 0 {

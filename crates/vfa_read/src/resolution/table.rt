@@ -3,31 +3,23 @@
 ghost use Rattle.std.specs.Prelude.{◌≡◌, ◌≤◌, ◌<◌, ◌+◌, [], ◌∷◌, length, filter_map, map, false, unwrap_or, decimal, if◌then◌else◌, IfOk, IfErr};
 ghost use Rattle.vfa_ir.specs.DefinedNames.{block_results, parameter_names, is_numbered as parameter_is_numbered};
 ghost use Rattle.vfa_ir.specs.DefinedNames.Use.{of_value, of_block};
+ghost use Rattle.vfa_ir.specs.Limits.{most_blocks, most_names};
 ghost use Rattle.vfa_ir.specs.Resolution.{Scope, value_id, block_id};
 ghost use Rattle.vfa_ir.specs.Words.{is_among};
 ghost use Rattle.vfa_read.specs.Resolving.{defined_in, label_of, names_of_block, names_of_blocks, only_values, one_block, no_names, Left, IsRepeated, Resolves};
 
 use super::symbols::Symbols;
-use crate::numbers::is_digits;
 use std::alloc::{AllocError, Global};
 use std::marker::Model;
 use vfa_ir::syntax::{BasicBlock, Instruction, Parameter, PhiNode};
-use vfa_ir::{BlockId, Name, Outside, ValueId, push_decimal};
-
-fn digits(alloc: Global, n: usize) -> Result<Name, AllocError>
-    ensures { IfOk result (λ name. name ≡ decimal n) }
-{
-    let mut text = Vec::new(alloc);
-    push_decimal(alloc, &mut text, n as u128)?;
-    Ok(Name(text))
-}
+use vfa_ir::{BlockId, Name, Outside, ValueId, is_digits};
 
 fn block_label(alloc: Global, numbered: usize, block: &BasicBlock) -> Result<Name, AllocError>
     ensures { IfOk result (λ name. name ≡ label_of numbered block.now) }
 {
     match &block.label {
         Some(name) => name.copied(alloc),
-        None => digits(alloc, numbered),
+        None => Name::decimal(alloc, numbered),
     }
 }
 
@@ -36,7 +28,7 @@ fn parameter_name(alloc: Global, numbered: usize, parameter: &Parameter) -> Resu
 {
     match &parameter.name {
         Some(name) => name.copied(alloc),
-        None => digits(alloc, numbered),
+        None => Name::decimal(alloc, numbered),
     }
 }
 
@@ -62,7 +54,7 @@ impl Model for SymbolTable {
 
     ghost view = { λ t. record { values = t.values; blocks = t.blocks } };
 
-    ghost invariant = { λ t. (length t.values ≤ 4096) × (length t.blocks ≤ 1024) };
+    ghost invariant = { λ t. (length t.values ≤ most_names) × (length t.blocks ≤ most_blocks) };
 }
 
 impl SymbolTable {
@@ -92,7 +84,7 @@ impl SymbolTable {
 
     /// Defines a value.
     pub fn define_value(&mut self, alloc: Global, name: &[u8]) -> Result<(), Outside>
-        requires { length self.old.values < 4096 }
+        requires { length self.old.values < most_names }
         ensures ok { IfOk result (λ _. Left self.old (only_values (name.now ∷ [])) self.new no_names) }
         ensures err { IfErr result (λ e. IsRepeated self.old (name.now ∷ []) e) }
     {
@@ -103,7 +95,7 @@ impl SymbolTable {
 
     /// Defines a block.
     pub fn define_block(&mut self, alloc: Global, name: &[u8]) -> Result<(), Outside>
-        requires { length self.old.blocks < 1024 }
+        requires { length self.old.blocks < most_blocks }
         ensures ok { IfOk result (λ _. Left self.old (one_block name.now) self.new no_names) }
         ensures err { IfErr result (λ e. IsRepeated self.old (name.now ∷ []) e) }
     {
@@ -147,7 +139,7 @@ impl SymbolTable {
         alloc: Global,
         instruction: &Instruction,
     ) -> Result<(), Outside>
-        requires { length self.old.values + length (filter_map (λ i. i.result) (instruction.now ∷ [])) ≤ 4096 }
+        requires { length self.old.values + length (filter_map (λ i. i.result) (instruction.now ∷ [])) ≤ most_names }
         ensures ok { IfOk result (λ _. Left self.old (only_values (filter_map (λ i. i.result) (instruction.now ∷ []))) self.new no_names) }
         ensures err { IfErr result (λ e. IsRepeated self.old (filter_map (λ i. i.result) (instruction.now ∷ [])) e) }
     {
@@ -158,7 +150,7 @@ impl SymbolTable {
     }
 
     fn define_phi(&mut self, alloc: Global, phi: &PhiNode) -> Result<(), Outside>
-        requires { length self.old.values + length (map (λ p. p.result) (phi.now ∷ [])) ≤ 4096 }
+        requires { length self.old.values + length (map (λ p. p.result) (phi.now ∷ [])) ≤ most_names }
         ensures ok { IfOk result (λ _. Left self.old (only_values (map (λ p. p.result) (phi.now ∷ []))) self.new no_names) }
         ensures err { IfErr result (λ e. IsRepeated self.old (map (λ p. p.result) (phi.now ∷ [])) e) }
     {
@@ -166,7 +158,7 @@ impl SymbolTable {
     }
 
     fn define_phis(&mut self, alloc: Global, phis: &[PhiNode]) -> Result<(), Outside>
-        requires { length self.old.values + length (map (λ p. p.result) phis.now) ≤ 4096 }
+        requires { length self.old.values + length (map (λ p. p.result) phis.now) ≤ most_names }
         ensures ok { IfOk result (λ _. Left self.old (only_values (map (λ p. p.result) phis.now)) self.new no_names) }
         ensures err { IfErr result (λ e. IsRepeated self.old (map (λ p. p.result) phis.now) e) }
     {
@@ -181,7 +173,7 @@ impl SymbolTable {
         alloc: Global,
         instructions: &[Instruction],
     ) -> Result<(), Outside>
-        requires { length self.old.values + length (filter_map (λ i. i.result) instructions.now) ≤ 4096 }
+        requires { length self.old.values + length (filter_map (λ i. i.result) instructions.now) ≤ most_names }
         ensures ok { IfOk result (λ _. Left self.old (only_values (filter_map (λ i. i.result) instructions.now)) self.new no_names) }
         ensures err { IfErr result (λ e. IsRepeated self.old (filter_map (λ i. i.result) instructions.now) e) }
     {
@@ -192,7 +184,7 @@ impl SymbolTable {
     }
 
     fn define_results(&mut self, alloc: Global, block: &BasicBlock) -> Result<(), Outside>
-        requires { length self.old.values + length (block_results block.now) ≤ 4096 }
+        requires { length self.old.values + length (block_results block.now) ≤ most_names }
         ensures ok { IfOk result (λ _. Left self.old (only_values (block_results block.now)) self.new no_names) }
         ensures err { IfErr result (λ e. IsRepeated self.old (block_results block.now) e) }
     {
@@ -207,8 +199,8 @@ impl SymbolTable {
         numbered: usize,
         block: &BasicBlock,
     ) -> Result<(), Outside>
-        requires values { length self.old.values + length (block_results block.now) ≤ 4096 }
-        requires blocks { length self.old.blocks < 1024 }
+        requires values { length self.old.values + length (block_results block.now) ≤ most_names }
+        requires blocks { length self.old.blocks < most_blocks }
         ensures ok { IfOk result (λ _. Left self.old (names_of_block numbered block.now) self.new no_names) }
         ensures err { IfErr result (λ e. IsRepeated self.old (label_of numbered block.now ∷ block_results block.now) e) }
     {
@@ -225,8 +217,8 @@ impl SymbolTable {
         numbered: usize,
         blocks: &[BasicBlock],
     ) -> Result<(), Outside>
-        requires values { length self.old.values + length (names_of_blocks numbered blocks.now).values ≤ 4096 }
-        requires blocks { length self.old.blocks + length (names_of_blocks numbered blocks.now).blocks ≤ 1024 }
+        requires values { length self.old.values + length (names_of_blocks numbered blocks.now).values ≤ most_names }
+        requires blocks { length self.old.blocks + length (names_of_blocks numbered blocks.now).blocks ≤ most_blocks }
         ensures ok { IfOk result (λ _. Left self.old (names_of_blocks numbered blocks.now) self.new no_names) }
         ensures err { IfErr result (λ e. IsRepeated self.old (names_of_blocks numbered blocks.now).all e) }
     {
@@ -243,8 +235,8 @@ impl SymbolTable {
         numbered: usize,
         parameter: &Parameter,
     ) -> Result<usize, Outside>
-        requires values { length self.old.values < 4096 }
-        requires few { numbered < 4096 }
+        requires values { length self.old.values < most_names }
+        requires few { numbered < most_names }
         ensures ok { IfOk result (λ _. Left self.old (only_values (unwrap_or parameter.now.name (decimal numbered) ∷ [])) self.new no_names) }
         ensures next { IfOk result (λ n. n ≡ (if parameter_is_numbered parameter.now then numbered + 1 else numbered)) }
         ensures err { IfErr result (λ e. IsRepeated self.old (unwrap_or parameter.now.name (decimal numbered) ∷ []) e) }
@@ -263,7 +255,7 @@ impl SymbolTable {
         alloc: Global,
         parameters: &[Parameter],
     ) -> Result<(), Outside>
-        requires { length self.old.values + length (parameter_names 0 parameters.now) ≤ 4096 }
+        requires { length self.old.values + length (parameter_names 0 parameters.now) ≤ most_names }
         ensures ok { IfOk result (λ _. Left self.old (only_values (parameter_names 0 parameters.now)) self.new no_names) }
         ensures err { IfErr result (λ e. IsRepeated self.old (parameter_names 0 parameters.now) e) }
     {

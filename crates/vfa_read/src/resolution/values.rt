@@ -2,12 +2,12 @@
 
 ghost use Rattle.std.specs.Prelude.{◌≡◌, [], ◌∷◌, ◌++◌, ◌≤◌, None, Some, map, flat_map, filter_map, length, IfOk};
 ghost use Rattle.vfa_ir.specs.DefinedNames.{kept_name as name_kept};
+ghost use Rattle.vfa_ir.specs.Limits.{most_names};
 ghost use Rattle.vfa_ir.specs.Resolution.{block_values, instruction_value, operation_type as type_of_operation, parameter_value, params_from, phi_value, value_of};
 
-use crate::numbers::is_digits;
 use std::alloc::{AllocError, Global};
 use vfa_ir::syntax::{BasicBlock, Instruction, Operation, Parameter, PhiNode};
-use vfa_ir::{Items, Name, Param, Ty, Value, ValueId};
+use vfa_ir::{Items, Name, Param, Ty, Value, ValueId, is_digits};
 
 /// The name that is kept: one of digits alone is none.
 fn kept_name(alloc: Global, name: &Name) -> Result<Option<Name>, AllocError>
@@ -143,7 +143,7 @@ pub fn copied_names(alloc: Global, names: &[Name]) -> Result<Items<Name>, AllocE
 
 /// The parameters, which are the first values.
 pub fn params_of(alloc: Global, parameters: &[Parameter]) -> Result<Items<Param>, AllocError>
-    requires { length parameters.now ≤ 4096 }
+    requires { length parameters.now ≤ most_names }
     ensures { IfOk result (λ all. all ≡ params_from 0 parameters.now) }
 {
     let mut list = Vec::new(alloc);

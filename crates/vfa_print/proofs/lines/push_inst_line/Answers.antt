@@ -7,5 +7,5 @@ use Rattle.vfa_print.proofs.lines.push_inst_line.Goals as goal
 pub returns : goal.returns
 returns c =
     let ls = instruction (inst_tree c.args.names.now c.args.calls.now c.args.inst.now) in
-    line_ends c.bytes-2.result c.args.w.now c.bytes.new.self c.push_inst.new.w c.bytes-2.new.self (codes "  ") ls
-    c.in_ok-bytes.ensures (grind (arith, with_tokens_append)) c.bytes-2.ensures
+    line_ends c.line_feed.result c.args.w.now c.bytes.new.self c.push_inst.new.w c.line_feed.new.self (codes "  ") ls
+    c.in_ok-bytes.ensures (grind (arith, with_tokens_append)) c.line_feed.ensures

@@ -7,5 +7,5 @@ use Rattle.vfa_print.proofs.terminators.push_case_line.Goals as goal
 pub returns : goal.returns
 returns c =
     let ls = switch_case c.args.width (case_tree c.args.names.now c.args.width (c.args.number, c.args.to)) in
-    line_ends c.bytes-2.result c.args.w.now c.bytes.new.self c.push_case.new.w c.bytes-2.new.self (codes "    ") ls
-    c.in_ok-bytes.ensures (grind (arith, with_tokens_append)) c.bytes-2.ensures
+    line_ends c.line_feed.result c.args.w.now c.bytes.new.self c.push_case.new.w c.line_feed.new.self (codes "    ") ls
+    c.in_ok-bytes.ensures (grind (arith, with_tokens_append)) c.line_feed.ensures

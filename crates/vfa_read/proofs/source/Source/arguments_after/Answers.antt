@@ -1,4 +1,5 @@
 use Rattle.std.proofs.Common.{◌∷◌, drop, sym, ◌∙◌, ap}
+use Rattle.std.specs.Str.{byte}
 use Rattle.vfa_ir.specs.Grammar.{FitsArgument}
 use Rattle.vfa_ir.specs.Spelling as spell
 use Rattle.vfa_read.specs.Productions.{call_argument}
@@ -9,7 +10,7 @@ use Rattle.vfa_read.specs.Tables.{the_mark}
 use Rattle.vfa_read.proofs.CommaLists.{commas_done, commas_item, commas_bad, commas_shorter}
 use Rattle.vfa_read.proofs.CallReaders.{argument_marks, call_argument_exact}
 use Rattle.vfa_read.proofs.Exact.{anything}
-use Rattle.vfa_read.proofs.Loops.{front_done, front_item, front_bad, with_front, stops_through, gives_error}
+use Rattle.vfa_read.proofs.Loops.{prefix_done, prefix_item, prefix_bad, with_prefix, stops_through, gives_error}
 use Rattle.vfa_read.proofs.source.Source.arguments_after.Goals as goal
 
 pub returns-in_err-argument : goal.returns-in_err-argument
@@ -18,8 +19,8 @@ returns-in_err-argument c =
     let here = after_commas call_argument (drop c.list.at all) in
     let e = c.in_err-argument.field-0.0 in
     let found = sym c.has_mark.ensures ∙ c.list-test.true in
-    let g = stops_through all e (skip (the_mark 44) call_argument (drop c.list.at all)) (made (λ more. c.args.first ∷ more) (after_commas call_argument) (drop c.args.from all))
-    (λ n i. sym c.list.invariant ∙ front_bad c.list.list.items n here (commas_bad call_argument spell.argument FitsArgument anything call_argument_exact argument_marks (drop c.list.at all) n found i)) c.in_err-argument.ensures in
+    let g = stops_through all e (skip (the_mark (byte ",")) call_argument (drop c.list.at all)) (made (λ more. c.args.first ∷ more) (after_commas call_argument) (drop c.args.from all))
+    (λ n i. sym c.list.invariant ∙ prefix_bad c.list.list.items n here (commas_bad call_argument spell.argument FitsArgument anything call_argument_exact argument_marks (drop c.list.at all) n found i)) c.in_err-argument.ensures in
     gives_error all e c.from_residual-in_err-argument.result (made (λ more. c.args.first ∷ more) (after_commas call_argument) (drop c.args.from all)) c.from_residual-in_err-argument.ensures.1 g
 
 pub list-smaller : goal.list-smaller
@@ -28,13 +29,13 @@ list-smaller c = let a = c.in_ok-argument.ensures in commas_shorter call_argumen
 pub list-preserved : goal.list-preserved
 list-preserved c =
     let all = all_of c.args.self.now in
-    let front = c.list.list.items in
+    let prefix = c.list.list.items in
     let next = drop c.in_ok-argument.next all in
     let item = commas_item call_argument spell.argument FitsArgument anything call_argument_exact argument_marks (drop c.list.at all) next c.in_ok-argument.argument (sym c.has_mark.ensures ∙ c.list-test.true) c.in_ok-argument.ensures in
-    let e = front_item front c.in_ok-argument.argument (after_commas call_argument (drop c.list.at all)) (after_commas call_argument next) item in
-    ap (λ z. with_front z (after_commas call_argument next)) c.in_ok-push-2.ensures.items ∙ sym e ∙ c.list.invariant
+    let e = prefix_item prefix c.in_ok-argument.argument (after_commas call_argument (drop c.list.at all)) (after_commas call_argument next) item in
+    ap (λ z. with_prefix z (after_commas call_argument next)) c.in_ok-push-2.ensures.items ∙ sym e ∙ c.list.invariant
 
 pub returns : goal.returns
 returns c =
     let all = all_of c.args.self.now in
-    sym c.list.invariant ∙ front_done c.list.list.items (drop c.list.at all) (after_commas call_argument (drop c.list.at all)) (commas_done call_argument spell.argument FitsArgument anything call_argument_exact argument_marks (drop c.list.at all) (sym c.has_mark.ensures ∙ c.list-test.false))
+    sym c.list.invariant ∙ prefix_done c.list.list.items (drop c.list.at all) (after_commas call_argument (drop c.list.at all)) (commas_done call_argument spell.argument FitsArgument anything call_argument_exact argument_marks (drop c.list.at all) (sym c.has_mark.ensures ∙ c.list-test.false))

@@ -1,11 +1,11 @@
 use Rattle.std.proofs.Common.{◌≡◌, length, drop}
 use Rattle.vfa_read.specs.Productions.{switch_cases}
 use Rattle.vfa_read.specs.Seen.{all_of}
-use Rattle.vfa_read.proofs.Loops.{with_front}
+use Rattle.vfa_read.proofs.Loops.{with_prefix}
 use Rattle.vfa_read.proofs.source.Source.switch_cases.Given as goal
 
 abbrev pub invariant-list : goal.invariant-list
-invariant-list l = with_front l.list.items (switch_cases l.width (drop l.at (all_of l.self))) ≡ switch_cases l.width (drop l.from (all_of l.self))
+invariant-list l = with_prefix l.list.items (switch_cases l.width (drop l.at (all_of l.self))) ≡ switch_cases l.width (drop l.from (all_of l.self))
 
 abbrev pub decreases-list : goal.decreases-list
 decreases-list l = length (drop l.at (all_of l.self))

@@ -12,7 +12,7 @@ tail-preserved c =
     reached_next (all_of c.args.self.now) c.args.from c.tail.at c.tail.depth c.in-Some-open_after.after (seen_lexeme c.in-Some.seen) c.in-Some.ensures.0 c.in-Some.ensures.1 (sym c.open_after.ensures ∙ c.in-Some-open_after.is) c.tail.invariant
 
 pub returns-then-depth-eq0 : goal.returns-then-depth-eq0
-returns-then-depth-eq0 c = (c.tail.invariant.behind, reached_done (all_of c.args.self.now) c.args.from c.tail.at c.in_default.ensures (subst (Reached (all_of c.args.self.now) c.args.from c.tail.at) c.if-depth-eq0.true c.tail.invariant))
+returns-then-depth-eq0 c = (c.tail.invariant.later, reached_done (all_of c.args.self.now) c.args.from c.tail.at c.in_default.ensures (subst (Reached (all_of c.args.self.now) c.args.from c.tail.at) c.if-depth-eq0.true c.tail.invariant))
 
 pub returns : goal.returns
 returns c = reached_open (all_of c.args.self.now) c.args.from c.tail.at c.tail.depth c.if-depth-eq0.false c.in_default.ensures c.tail.invariant
