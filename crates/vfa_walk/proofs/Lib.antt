@@ -1,0 +1,2 @@
+pub mod PassEquations
+pub mod RoundsEnd
