@@ -1,0 +1,4 @@
+mod Growing
+mod Nothing
+mod Shifts
+mod Within

@@ -1,0 +1,4 @@
+//! Demanded bits: which bits of each value of a function something hangs on.
+#![tactic(auto)]
+
+mod rows;
