@@ -1,4 +1,9 @@
-mod Growing
+mod Asking
+mod Ends
+mod Monotone
 mod Nothing
+mod Parts
+mod Searched
 mod Shifts
+mod Users
 mod Within

@@ -3,7 +3,8 @@
 --
 -- In `%a = and i32 %x, 65535`, `%t = trunc i32 %a to i8`, `ret i8 %t`, all 8 bits of %t are asked for, so 255 of %a, so 255
 -- of %x.
-use Rattle.std.specs.Prelude.{◌≡◌, ◌<◌, ℕ, ◌+◌, ◌^◌, List, [], ◌∷◌, ◌++◌, flat_map, All, Some, None, bit_and}
+use Rattle.std.specs.Prelude.{◌≡◌, ◌<◌, ℕ, ◌+◌, ◌^◌, List, [], ◌∷◌, ◌++◌, flat_map, Some, None, bit_and, slice_index_or}
+use Rattle.std.specs.List.{AllByRecursion}
 use Rattle.vfa_ir.specs.declared.operations.Op.{Op}
 use Rattle.vfa_ir.specs.declared.operations.Operand.{Operand}
 use Rattle.vfa_ir.specs.declared.operations.Ty.{Ty}
@@ -48,30 +49,42 @@ abbrev pub phi_asks : (ℕ → ℕ) → Phi → List Ask
 phi_asks masks p = flat_map (λ e. ask_of (masks p.result.0) e.0) p.entries
 
 -- what is returned and what decides on an edge is seen
-abbrev pub term_asks : Term → List Ask
-term_asks (Term.Ret w a) = ask_of (all_bits w) a
-term_asks (Term.Br _) = []
-term_asks (Term.CondBr c _ _) = ask_of (all_bits 1) c
-term_asks (Term.Switch w on _ _) = ask_of (all_bits w) on
-term_asks Term.Unreachable = []
+abbrev pub seen_in : Term → List (Ty × Operand)
+seen_in (Term.Ret w a) = (Ty.Int w, a) ∷ []
+seen_in (Term.Br _) = []
+seen_in (Term.CondBr c _ _) = (Ty.Int 1, c) ∷ []
+seen_in (Term.Switch w on _ _) = (Ty.Int w, on) ∷ []
+seen_in Term.Unreachable = []
+
+-- all bits of each of these
+abbrev pub whole_asks : List (Ty × Operand) → List Ask
+whole_asks operands = flat_map (λ o. ask_of (all_bits (number_width o.0)) o.1) operands
 
 abbrev pub block_asks : Function → (ℕ → ℕ) → Block → List Ask
-block_asks f masks b = flat_map (phi_asks masks) b.phis ++ (flat_map (inst_asks f masks) b.insts ++ term_asks b.term)
+block_asks f masks b = flat_map (phi_asks masks) b.phis ++ (flat_map (inst_asks f masks) b.insts ++ whole_asks (seen_in b.term))
 
 -- all uses of a function, where results have these masks
 abbrev pub asks_of : Function → (ℕ → ℕ) → List Ask
 asks_of f masks = flat_map (block_asks f masks) f.blocks
 
+-- the mask of a value in a list of masks; of one that is not there it is 0
+abbrev pub mask_in : List ℕ → ℕ → ℕ
+mask_in bits v = slice_index_or bits v 0
+
 -- each bit of the one mask is one of the other
 abbrev pub IsWithin : ℕ → ℕ → Type 0
 IsWithin a b = bit_and a b ≡ a
 
+-- the masks have what these uses ask for
+abbrev pub Have : List Ask → (ℕ → ℕ) → Type 0
+Have asks masks = AllByRecursion (λ a. IsWithin a.bits (masks a.name)) asks
+
 -- masks of 128 bits that have all that the uses of the function ask for
-pub record HasWhatIsAsked (f : Function) (masks : ℕ → ℕ) : Type 0 where
-  pub fits : (v : ℕ) → masks v < 2 ^ 128
-  pub has : All (λ a. IsWithin a.bits (masks a.name)) (asks_of f masks)
+pub record HaveWhatIsAsked (f : Function) (masks : ℕ → ℕ) : Type 0 where
+  pub fit : (v : ℕ) → masks v < 2 ^ 128
+  pub have : Have (asks_of f masks) masks
 
 -- the least of them
 pub record AreMasks (f : Function) (masks : ℕ → ℕ) : Type 0 where
-  pub enough : HasWhatIsAsked f masks
-  pub least : (other : ℕ → ℕ) → HasWhatIsAsked f other → (v : ℕ) → IsWithin (masks v) (other v)
+  pub enough : HaveWhatIsAsked f masks
+  pub least : (other : ℕ → ℕ) → HaveWhatIsAsked f other → (v : ℕ) → IsWithin (masks v) (other v)
