@@ -5,7 +5,7 @@ use Rattle.std.proofs.lemmas.Bool.{cases_eq}
 use Rattle.std.proofs.Common.{length-set}
 use Rattle.vfa_ir.specs.declared.operations.Operand.{Operand}
 use Rattle.vfa_ir.specs.declared.operations.ValueId.{ValueId}
-use Rattle.vfa_demand.specs.Masks.{IsWithin, Have, ask_of}
+use Rattle.vfa_demand.specs.Masks.{IsPartOf, Have, ask_of}
 use Rattle.vfa_demand.specs.Masks.{mask_in}
 use Rattle.vfa_demand.specs.Steps.{room_in, IsStep}
 use Rattle.vfa_demand.proofs.Within.{within_or_left, within_le, or_within}
@@ -62,11 +62,11 @@ grown_step bits v more grew within fits other_mask =
     small fit u (inr apart) =
         subst (λ m. m < 2 ^ 128) (sym (get_or-set_other bits v.0 u (bit_or (mask_in bits v.0) more) 0 apart)) (fit u)
 
-    at_value : (other : ℕ → ℕ) → IsWithin more (other v.0) → ((u : ℕ) → IsWithin (mask_in bits u) (other u)) →
-        (u : ℕ) → (u ≡ v.0) ⊎ (u ≢ v.0) → IsWithin (mask_in (set bits v.0 (bit_or (mask_in bits v.0) more)) u) (other u)
+    at_value : (other : ℕ → ℕ) → IsPartOf more (other v.0) → ((u : ℕ) → IsPartOf (mask_in bits u) (other u)) →
+        (u : ℕ) → (u ≡ v.0) ⊎ (u ≢ v.0) → IsPartOf (mask_in (set bits v.0 (bit_or (mask_in bits v.0) more)) u) (other u)
     at_value other have inside u (inl same) =
-        subst (λ u. IsWithin (mask_in (set bits v.0 (bit_or (mask_in bits v.0) more)) u) (other u)) (sym same)
-        (subst (λ m. IsWithin m (other v.0)) (sym (get_or-set_same bits v.0 (bit_or (mask_in bits v.0) more) 0 within))
+        subst (λ u. IsPartOf (mask_in (set bits v.0 (bit_or (mask_in bits v.0) more)) u) (other u)) (sym same)
+        (subst (λ m. IsPartOf m (other v.0)) (sym (get_or-set_same bits v.0 (bit_or (mask_in bits v.0) more) 0 within))
         (or_within (mask_in bits v.0) more (other v.0) (inside v.0) have))
     at_value other have inside u (inr apart) =
-        subst (λ m. IsWithin m (other u)) (sym (get_or-set_other bits v.0 u (bit_or (mask_in bits v.0) more) 0 apart)) (inside u)
+        subst (λ m. IsPartOf m (other u)) (sym (get_or-set_other bits v.0 u (bit_or (mask_in bits v.0) more) 0 apart)) (inside u)

@@ -2,7 +2,7 @@
 use Rattle.std.proofs.Common.{◌≡◌, ◌<◌, ◌≤◌, ℕ, zero, suc, ◌+◌, ◌^◌, Bool, true, false, List, [], ◌∷◌, ◌++◌, length, get_or, flat_map, Option, Some, None, ap, subst, arith, sym, refl, ◌∙◌, inl, inr, ◌⊎◌}
 use Rattle.std.specs.Prelude.{All, IfSome, slice_get}
 use Rattle.std.proofs.lemmas.Bool.{cases_lt}
-use Rattle.vfa_demand.specs.Masks.{Ask, IsWithin, Have}
+use Rattle.vfa_demand.specs.Masks.{Ask, IsPartOf, Have}
 use Rattle.vfa_demand.specs.Masks.{mask_in}
 use Rattle.vfa_demand.specs.Steps.{room_in, IsStep}
 use Rattle.vfa_demand.proofs.Asking.{quiet_step}
@@ -31,7 +31,7 @@ step_then H K s0 s1 s2 g0 g1 g2 one two = record {
 
 -- a step by what asks for the same
 pub step_alike : (H K : (ℕ → ℕ) → Type 0) (s0 s1 : List ℕ) (g0 g1 : Bool) → (H (mask_in s0) → K (mask_in s0)) →
-    ((other : ℕ → ℕ) → ((v : ℕ) → other v < 2 ^ 128) → ((v : ℕ) → IsWithin (mask_in s0 v) (other v)) → K other → H other) →
+    ((other : ℕ → ℕ) → ((v : ℕ) → other v < 2 ^ 128) → ((v : ℕ) → IsPartOf (mask_in s0 v) (other v)) → K other → H other) →
     IsStep H s0 s1 g0 g1 → IsStep K s0 s1 g0 g1
 step_alike H K s0 s1 g0 g1 to from step = record {
   same_length = step.same_length;

@@ -2,7 +2,7 @@
 use Rattle.std.proofs.Common.{◌≡◌, ◌<◌, ℕ, zero, suc, ◌+◌, ◌*◌, ◌^◌, Bool, true, false, List, length, replicate, subst, arith, lit<, sym, refl, ◌∙◌, ap}
 use Rattle.std.proofs.lemmas.List.{length-replicate}
 use Rattle.vfa_ir.specs.declared.functions.Function.{Function}
-use Rattle.vfa_demand.specs.Masks.{IsWithin, Have, mask_in, asks_of, HaveWhatIsAsked, AreMasks}
+use Rattle.vfa_demand.specs.Masks.{IsPartOf, Have, mask_in, asks_of, HaveWhatIsAsked, AreMasks}
 use Rattle.vfa_demand.specs.Steps.{IsStep, room_in}
 use Rattle.vfa_demand.proofs.Within.{none_within}
 
@@ -10,7 +10,7 @@ use Rattle.vfa_demand.proofs.Within.{none_within}
 pub record IsSearched (f : Function) (bits : List ℕ) (grew : Bool) : Type 0 where
   pub same_length : length bits ≡ length f.values
   pub fits : (v : ℕ) → mask_in bits v < 2 ^ 128
-  pub least : (other : ℕ → ℕ) → HaveWhatIsAsked f other → (v : ℕ) → IsWithin (mask_in bits v) (other v)
+  pub least : (other : ℕ → ℕ) → HaveWhatIsAsked f other → (v : ℕ) → IsPartOf (mask_in bits v) (other v)
   pub have : grew ≡ false → Have (asks_of f (mask_in bits)) (mask_in bits)
 
 -- what a pass makes less
@@ -27,7 +27,7 @@ pub at_start : (f : Function) (bits : List ℕ) → bits ≡ replicate (length f
 at_start f bits is = record {
   same_length = ap length is ∙ length-replicate (length f.values) 0;
   fits = λ v. subst (λ m. m < 2 ^ 128) (sym (none v)) (lit< tt);
-  least = λ other _ v. subst (λ m. IsWithin m (other v)) (sym (none v)) (none_within (other v));
+  least = λ other _ v. subst (λ m. IsPartOf m (other v)) (sym (none v)) (none_within (other v));
   have = λ e. absurd (differ e);
 }
   where

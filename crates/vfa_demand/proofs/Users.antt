@@ -12,7 +12,7 @@ use Rattle.vfa_ir.specs.declared.functions.Inst.{Inst}
 use Rattle.vfa_ir.specs.declared.functions.Phi.{Phi}
 use Rattle.vfa_ir.specs.Operands.{operands_of}
 use Rattle.vfa_demand.specs.Rows.{asked}
-use Rattle.vfa_demand.specs.Masks.{Ask, IsWithin, Have, ask_of, mask_in, number_width, operand_asks, result_mask, inst_asks, phi_asks, block_asks, seen_in, whole_asks}
+use Rattle.vfa_demand.specs.Masks.{Ask, IsPartOf, Have, ask_of, mask_in, number_width, operand_asks, result_mask, inst_asks, phi_asks, block_asks, seen_in, whole_asks}
 use Rattle.vfa_demand.specs.Steps.{IsStep, entry_asks, place_asks}
 use Rattle.vfa_demand.proofs.Monotone.{asked_within}
 use Rattle.vfa_demand.proofs.Parts.{Below, have_append, have_left, have_right, have_flat, have_parts, step_alike, step_then}
@@ -51,12 +51,12 @@ have_operands op d n (o ∷ ops) m h (suc k) =
     (have_operands op d (n + 1) ops m (have_right (ask_of (asked op (number_width o.0) n d) o.1) (operand_asks op d (n + 1) ops) m h) k)
 
 -- a lesser mask of a result asks for less
-less_asked : (bits more : ℕ) (o : Operand) (m : ℕ → ℕ) → IsWithin bits more → Have (ask_of more o) m → Have (ask_of bits o) m
+less_asked : (bits more : ℕ) (o : Operand) (m : ℕ → ℕ) → IsPartOf bits more → Have (ask_of more o) m → Have (ask_of bits o) m
 less_asked bits more (Operand.Value v) m h have = (within_trans bits more (m v.0) h have.0, tt)
 less_asked bits more (Operand.Literal c) m h have = tt
 less_asked bits more Operand.Poison m h have = tt
 
-less_listed : (op : Op) (d e n : ℕ) (ops : List (Ty × Operand)) (k : ℕ) (m : ℕ → ℕ) → d < 2 ^ 128 → e < 2 ^ 128 → IsWithin d e →
+less_listed : (op : Op) (d e n : ℕ) (ops : List (Ty × Operand)) (k : ℕ) (m : ℕ → ℕ) → d < 2 ^ 128 → e < 2 ^ 128 → IsPartOf d e →
     Have (listed_asks op e n ops k) m → Have (listed_asks op d n ops k) m
 less_listed op d e n ops k m f g h = of (slice_get ops k)
   where
@@ -68,10 +68,10 @@ less_listed op d e n ops k m f g h = of (slice_get ops k)
         less_asked (asked op (number_width o.0) (n + k) d) (asked op (number_width o.0) (n + k) e) o.1 m
         (asked_within op (number_width o.0) (n + k) d e f g h) have
 
-result_within : (i : Inst) (m other : ℕ → ℕ) → ((v : ℕ) → IsWithin (m v) (other v)) → IsWithin (result_mask m i) (result_mask other i)
+result_within : (i : Inst) (m other : ℕ → ℕ) → ((v : ℕ) → IsPartOf (m v) (other v)) → IsPartOf (result_mask m i) (result_mask other i)
 result_within i m other h = of i.result
   where
-    of : (r : Option ValueId) → IsWithin (elim r [ None ↦ 0 | Some v ↦ m v.0 ]) (elim r [ None ↦ 0 | Some v ↦ other v.0 ])
+    of : (r : Option ValueId) → IsPartOf (elim r [ None ↦ 0 | Some v ↦ m v.0 ]) (elim r [ None ↦ 0 | Some v ↦ other v.0 ])
     of None = none_within 0
     of (Some v) = h v.0
 
@@ -100,11 +100,11 @@ instruction_step f i d n s0 s1 g0 g1 mask all =
         subst (λ e. Have (listed_asks i.op e 0 (operands_of f i.op) k) (mask_in s0)) mask
         (subst (λ asks. Have asks (mask_in s0)) (sym (at_zero f i.op d k)) (h k (omega (arith, less, all)))))
 
-    from : (other : ℕ → ℕ) → ((v : ℕ) → other v < 2 ^ 128) → ((v : ℕ) → IsWithin (mask_in s0 v) (other v)) →
+    from : (other : ℕ → ℕ) → ((v : ℕ) → other v < 2 ^ 128) → ((v : ℕ) → IsPartOf (mask_in s0 v) (other v)) →
         Have (inst_asks f other i) other → Below (λ k m. Have (place_asks f i.op k d) m) n other
     from other fits inside have k less =
         let e : ℕ = result_mask other i in
-        let below : IsWithin d e = subst (λ d. IsWithin d e) (sym mask) (result_within i (mask_in s0) other inside) in
+        let below : IsPartOf d e = subst (λ d. IsPartOf d e) (sym mask) (result_within i (mask_in s0) other inside) in
         let high : e < 2 ^ 128 = result_fits i other fits in
         let low : d < 2 ^ 128 = omega (arith, within_le d e below, high) in
         subst (λ asks. Have asks other) (at_zero f i.op d k)
@@ -129,7 +129,7 @@ phi_step p d n s0 s1 g0 g1 mask all =
     to h = subst (λ d. Have (flat_map (λ e. ask_of d e.0) p.entries) (mask_in s0)) mask
         (have_flat (λ e. ask_of d e.0) p.entries (mask_in s0) (λ k less. entry_part (slice_get p.entries k) (mask_in s0) (h k (omega (arith, less, all)))))
 
-    less_each : (entries : List (Operand × BlockId)) (more : ℕ) (m : ℕ → ℕ) → IsWithin d more →
+    less_each : (entries : List (Operand × BlockId)) (more : ℕ) (m : ℕ → ℕ) → IsPartOf d more →
         Have (flat_map (λ e. ask_of more e.0) entries) m → Have (flat_map (λ e. ask_of d e.0) entries) m
     less_each [] more m h have = tt
     less_each (e ∷ rest) more m h have =
@@ -137,11 +137,11 @@ phi_step p d n s0 s1 g0 g1 mask all =
         (less_asked d more e.0 m h (have_left (ask_of more e.0) (flat_map (λ e. ask_of more e.0) rest) m have))
         (less_each rest more m h (have_right (ask_of more e.0) (flat_map (λ e. ask_of more e.0) rest) m have))
 
-    from : (other : ℕ → ℕ) → ((v : ℕ) → other v < 2 ^ 128) → ((v : ℕ) → IsWithin (mask_in s0 v) (other v)) →
+    from : (other : ℕ → ℕ) → ((v : ℕ) → other v < 2 ^ 128) → ((v : ℕ) → IsPartOf (mask_in s0 v) (other v)) →
         Have (phi_asks other p) other → Below (λ k m. Have (entry_asks p k d) m) n other
     from other fits inside have k less =
         part_entry (slice_get p.entries k) other (have_parts (λ e. ask_of d e.0) p.entries other
-        (less_each p.entries (other p.result.0) other (subst (λ d. IsWithin d (other p.result.0)) (sym mask) (inside p.result.0)) have) k)
+        (less_each p.entries (other p.result.0) other (subst (λ d. IsPartOf d (other p.result.0)) (sym mask) (inside p.result.0)) have) k)
 
 -- a block, from its terminator up
 pub block_step : (f : Function) (b : Block) (insts : List Inst) (phis : List Phi) (s0 s1 s2 s3 : List ℕ) (g0 g1 g2 g3 : Bool) →

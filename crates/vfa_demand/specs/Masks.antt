@@ -72,12 +72,12 @@ abbrev pub mask_in : List ℕ → ℕ → ℕ
 mask_in bits v = slice_index_or bits v 0
 
 -- each bit of the one mask is one of the other
-abbrev pub IsWithin : ℕ → ℕ → Type 0
-IsWithin a b = bit_and a b ≡ a
+abbrev pub IsPartOf : ℕ → ℕ → Type 0
+IsPartOf a b = bit_and a b ≡ a
 
 -- the masks have what these uses ask for
 abbrev pub Have : List Ask → (ℕ → ℕ) → Type 0
-Have asks masks = AllByRecursion (λ a. IsWithin a.bits (masks a.name)) asks
+Have asks masks = AllByRecursion (λ a. IsPartOf a.bits (masks a.name)) asks
 
 -- masks of 128 bits that have all that the uses of the function ask for
 pub record HaveWhatIsAsked (f : Function) (masks : ℕ → ℕ) : Type 0 where
@@ -87,4 +87,4 @@ pub record HaveWhatIsAsked (f : Function) (masks : ℕ → ℕ) : Type 0 where
 -- the least of them
 pub record AreMasks (f : Function) (masks : ℕ → ℕ) : Type 0 where
   pub enough : HaveWhatIsAsked f masks
-  pub least : (other : ℕ → ℕ) → HaveWhatIsAsked f other → (v : ℕ) → IsWithin (masks v) (other v)
+  pub least : (other : ℕ → ℕ) → HaveWhatIsAsked f other → (v : ℕ) → IsPartOf (masks v) (other v)

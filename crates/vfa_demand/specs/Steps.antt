@@ -5,7 +5,7 @@ use Rattle.vfa_ir.specs.declared.operations.Op.{Op}
 use Rattle.vfa_ir.specs.declared.functions.Function.{Function}
 use Rattle.vfa_ir.specs.declared.functions.Phi.{Phi}
 use Rattle.vfa_ir.specs.Operands.{operands_of}
-use Rattle.vfa_demand.specs.Masks.{Ask, IsWithin, ask_of, mask_in, number_width}
+use Rattle.vfa_demand.specs.Masks.{Ask, IsPartOf, ask_of, mask_in, number_width}
 use Rattle.vfa_demand.specs.Rows.{asked}
 
 -- how far the masks are from all bits
@@ -23,7 +23,7 @@ pub record IsStep (Have : (ℕ → ℕ) → Type 0) (before after : List ℕ) (g
   pub fits : ((v : ℕ) → mask_in before v < 2 ^ 128) → (v : ℕ) → mask_in after v < 2 ^ 128
   -- masks that have what is asked for are not passed
   pub least : (other : ℕ → ℕ) → ((v : ℕ) → other v < 2 ^ 128) → Have other →
-      ((v : ℕ) → IsWithin (mask_in before v) (other v)) → (v : ℕ) → IsWithin (mask_in after v) (other v)
+      ((v : ℕ) → IsPartOf (mask_in before v) (other v)) → (v : ℕ) → IsPartOf (mask_in after v) (other v)
   pub room : room_in after ≤ room_in before
   pub less_room : grew ≡ false → grew_after ≡ true → room_in after < room_in before
 

@@ -4,6 +4,8 @@
 mod growing;
 mod least;
 mod rows;
+#[cfg(test)]
+mod tests;
 
 pub use least::masks;
 pub use rows::{all_bits, asked};

@@ -1,7 +1,7 @@
 use Rattle.std.proofs.Common.{◌≡◌, ◌≢◌, ◌<◌, ◌^◌, ◌∙◌, ap, sym, subst, length, set, bit_or, true}
 use Rattle.std.proofs.lemmas.List.{get_or_default}
 use Rattle.vfa_ir.specs.declared.operations.Operand.{Operand}
-use Rattle.vfa_demand.specs.Masks.{IsWithin, Have, ask_of}
+use Rattle.vfa_demand.specs.Masks.{IsPartOf, Have, ask_of}
 use Rattle.vfa_demand.specs.Masks.{mask_in}
 use Rattle.vfa_demand.specs.Steps.{IsStep}
 use Rattle.vfa_demand.specs.Usable.{IsNameBelow}
@@ -17,8 +17,8 @@ returns-then-new-old c =
     let old : c.index-old.result.now ≡ mask_in bits v.0 = c.index-old.ensures ∙ get_or_default bits v.0 c.index-old.result.now 0 below in
     let same : bit_or (mask_in bits v.0) c.args.bits ≡ mask_in bits v.0 =
     ap (λ m. bit_or m c.args.bits) (sym old) ∙ sym c.both-new.ensures ∙ c.if-new-old.true ∙ old in
-    let has : IsWithin c.args.bits (mask_in bits v.0) =
-    subst (IsWithin c.args.bits) same (within_or_right (mask_in bits v.0) c.args.bits) in
+    let has : IsPartOf c.args.bits (mask_in bits v.0) =
+    subst (IsPartOf c.args.bits) same (within_or_right (mask_in bits v.0) c.args.bits) in
     subst (λ o. IsStep (Have (ask_of c.args.bits o)) bits bits c.args.self.now.grew c.args.self.now.grew) (sym c.in-Value.is)
     (quiet_step (Have (ask_of c.args.bits (Operand.Value v))) bits c.args.self.now.grew (has, tt))
 
