@@ -1,0 +1,9 @@
+mod Asking
+mod Ends
+mod Monotone
+mod Nothing
+mod Parts
+mod Searched
+mod Shifts
+mod Users
+mod Within

@@ -1,0 +1,10 @@
+use Rattle.std.proofs.Common.{◌≤◌, length}
+use Rattle.vfa_demand.specs.Masks.{phi_asks}
+use Rattle.vfa_demand.specs.Steps.{IsStep}
+use Rattle.vfa_demand.proofs.Parts.{From, HaveAt}
+use Rattle.vfa_demand.proofs.growing.Growing.ask_phis.Given as goal
+
+abbrev pub invariant-loop-place : goal.invariant-loop-place
+invariant-loop-place l =
+    (l.place ≤ length l.phis) × IsStep (From (λ k m. HaveAt (phi_asks m) l.phis k m) l.place (length l.phis))
+    l.initial.self.bits.items l.self.bits.items l.initial.self.grew l.self.grew

@@ -1,0 +1,4 @@
+pub mod Masks
+pub mod Rows
+pub mod Steps
+pub mod Usable

@@ -1,0 +1,33 @@
+//! The least masks.
+
+ghost use Rattle.std.specs.Prelude.{◌≡◌, IfOk, length};
+ghost use Rattle.vfa_demand.specs.Masks.{AreMasks, mask_in};
+ghost use Rattle.vfa_demand.specs.Usable.{AreUsable};
+
+use crate::growing::Growing;
+use std::alloc::{AllocError, Global};
+use vfa_ir::Function;
+
+/// For each value of a function the bits of it that something hangs on, as a mask: the least masks with all that each use
+/// asks for. A bit that is in no mask may change, and no observer of the function can tell. Of a pair all bits of its number
+/// are asked for, or none.
+///
+/// In `%a = and i32 %x, 65535`, `%t = trunc i32 %a to i8`, `ret i8 %t` it is 255 of each of the three.
+///
+/// The operands of the function are values of it, literals and `poison`, at widths of 1 to 128. An error says that memory
+/// was wanting. After LLVM's DemandedBits.
+pub fn masks(alloc: Global, f: &Function) -> Result<Vec<u128>, AllocError>
+    requires { AreUsable f.now }
+    ensures masks { IfOk result (λ masks. AreMasks f.now (mask_in masks.items)) }
+    ensures length { IfOk result (λ masks. length masks.items ≡ length f.now.values) }
+{
+    let mut growing = Growing {
+        bits: vec![in alloc; 0; f.values.as_slice().len()]?,
+        grew: true,
+    };
+    while growing.grew {
+        growing.grew = false;
+        growing.ask_blocks(f, f.blocks.as_slice());
+    }
+    Ok(growing.bits)
+}

@@ -1,0 +1,211 @@
+ghost use Rattle.std.specs.Prelude.{◌<◌, All, IsTrue, length};
+ghost use Rattle.vfa_demand.specs.Masks.{number_width, seen_in};
+ghost use Rattle.vfa_demand.specs.Usable.{AreUsable, IsNameBelow, IsUsable, IsUsableBlock, IsUsableInst, IsUsablePhi};
+ghost use Rattle.vfa_ir.specs.Operands.{operands_of};
+ghost use Rattle.vfa_word.specs.Numbers.{IsWidth};
+
+use super::*;
+use std::alloc::{AllocError, Global};
+use vfa_ir::{
+    Bin, Block, Cast, CastFlags, Flags, Function, Inst, Items, Name, Op, Operand, Param, Term, Ty,
+    Value, ValueId,
+};
+
+const PLAIN: Flags = Flags {
+    nuw: false,
+    nsw: false,
+    exact: false,
+    disjoint: false,
+};
+
+const NO_FLAGS: CastFlags = CastFlags {
+    nuw: false,
+    nsw: false,
+    nneg: false,
+};
+
+fn name(number: u32) -> Operand {
+    Operand::Value(ValueId(number))
+}
+
+fn binary(bin: Bin, width: u32, a: Operand, b: Operand) -> Op {
+    Op::Bin {
+        bin,
+        flags: PLAIN,
+        width,
+        a,
+        b,
+    }
+}
+
+fn cast(cast: Cast, from: u32, to: u32) -> Op {
+    Op::Cast {
+        cast,
+        flags: NO_FLAGS,
+        from,
+        to,
+        a: name(0),
+    }
+}
+
+#[test]
+fn carries_ask_for_all_lower_bits(rt: HostRuntime) {
+    let add = binary(Bin::Add, 8, name(0), name(1));
+    assert!(rt; asked(&add, 8, 0, 20) == 31);
+    assert!(rt; asked(&add, 8, 1, 128) == 255);
+    assert!(rt; asked(&add, 8, 1, 0) == 0);
+    let xor = binary(Bin::Xor, 128, name(0), name(1));
+    assert!(rt; asked(&xor, 128, 0, 1 << 127) == 1 << 127);
+}
+
+#[test]
+fn literals_hide_bits(rt: HostRuntime) {
+    let and = binary(Bin::And, 8, Operand::Literal(12), name(0));
+    assert!(rt; asked(&and, 8, 1, 10) == 8);
+    let or = binary(Bin::Or, 8, name(0), Operand::Literal(12));
+    assert!(rt; asked(&or, 8, 0, 10) == 2);
+    let both = binary(Bin::And, 8, name(0), name(1));
+    assert!(rt; asked(&both, 8, 0, 10) == 10);
+}
+
+#[test]
+fn shifts_move_what_is_asked_for(rt: HostRuntime) {
+    let left = binary(Bin::Shl, 8, name(0), Operand::Literal(2));
+    assert!(rt; asked(&left, 8, 0, 15) == 3);
+    let far = binary(Bin::Shl, 8, name(0), Operand::Literal(8));
+    assert!(rt; asked(&far, 8, 0, 1) == 255);
+    let any = binary(Bin::Shl, 64, name(0), name(1));
+    assert!(rt; asked(&any, 64, 0, 4) == 7);
+    assert!(rt; asked(&any, 64, 1, 4) == u64::MAX as u128);
+    let right = binary(Bin::Lshr, 8, name(0), Operand::Literal(2));
+    assert!(rt; asked(&right, 8, 0, 255) == 252);
+    let signed = binary(Bin::Ashr, 8, name(0), Operand::Literal(2));
+    assert!(rt; asked(&signed, 8, 0, 32) == 128);
+    assert!(rt; asked(&signed, 8, 0, 64) == 128);
+    assert!(rt; asked(&signed, 8, 0, 15) == 60);
+}
+
+#[test]
+fn casts_ask_below_the_width(rt: HostRuntime) {
+    assert!(rt; asked(&cast(Cast::Zext, 8, 16), 8, 0, 0xf10) == 0x10);
+    assert!(rt; asked(&cast(Cast::Sext, 8, 16), 8, 0, 0xf10) == 0x90);
+    assert!(rt; asked(&cast(Cast::Sext, 8, 16), 8, 0, 0x7f) == 0x7f);
+    assert!(rt; asked(&cast(Cast::Sext, 1, 128), 1, 0, 1 << 127) == 1);
+    assert!(rt; asked(&cast(Cast::Trunc, 16, 8), 16, 0, 0x81) == 0x81);
+}
+
+#[test]
+fn divisions_and_assumptions_ask_for_all(rt: HostRuntime) {
+    let division = binary(Bin::Udiv, 8, name(0), name(1));
+    assert!(rt; asked(&division, 8, 0, 0) == 255);
+    assert!(rt; asked(&Op::Assume { c: name(0) }, 1, 0, 0) == 1);
+}
+
+fn is_below(count: usize, operand: Operand) -> bool
+    ensures { IsTrue result → IsNameBelow count operand }
+{
+    match operand {
+        Operand::Value(value) => (value.0 as usize) < count,
+        _ => true,
+    }
+}
+
+fn is_width(width: u32) -> bool
+    ensures { IsTrue result → IsWidth width }
+{
+    1 <= width && width <= 128
+}
+
+/// Whether a cast, or a binary operation with a literal, uses a value of the function at a width of the profile.
+fn is_usable(f: &Function, op: &Op) -> bool
+    ensures { IsTrue result → All (IsUsable (length f.now.values)) (operands_of f.now op.now) }
+{
+    match *op {
+        Op::Cast { from, a, .. } => is_width(from) && is_below(f.values.as_slice().len(), a),
+        _ => false,
+    }
+}
+
+fn is_seen_usable(f: &Function, term: &Term) -> bool
+    ensures { IsTrue result → All (IsUsable (length f.now.values)) (seen_in term.now) }
+{
+    match *term {
+        Term::Ret { width, a } => is_width(width) && is_below(f.values.as_slice().len(), a),
+        _ => false,
+    }
+}
+
+/// Whether the block is one usable instruction and a return of a usable operand.
+fn is_usable_block(f: &Function, block: &Block) -> bool
+    ensures { IsTrue result → IsUsableBlock f.now (length f.now.values) block.now }
+{
+    if !block.phis.as_slice().is_empty() {
+        return false;
+    }
+    let [inst] = block.insts.as_slice() else {
+        return false;
+    };
+    is_usable(f, &inst.op) && is_seen_usable(f, &block.term)
+}
+
+fn is_usable_function(f: &Function) -> bool
+    ensures { IsTrue result → AreUsable f.now }
+{
+    match f.blocks.as_slice() {
+        [block] => is_usable_block(f, block),
+        _ => false,
+    }
+}
+
+fn value(width: u32) -> Value {
+    Value {
+        name: None,
+        ty: Ty::Int(width),
+    }
+}
+
+/// `%1 = trunc i32 %0 to i8`, `ret i8 %1`, beside a value that nothing uses.
+fn truncating(alloc: Global) -> Result<Function, AllocError> {
+    let mut values: Vec<Value> = Vec::new(alloc);
+    values.push(value(32))?;
+    values.push(value(8))?;
+    values.push(value(8))?;
+    let mut insts: Vec<Inst> = Vec::new(alloc);
+    insts.push(Inst {
+        result: Some(ValueId(1)),
+        op: cast(Cast::Trunc, 32, 8),
+    })?;
+    let mut blocks: Vec<Block> = Vec::new(alloc);
+    blocks.push(Block {
+        name: None,
+        phis: Items(Vec::new(alloc)),
+        insts: Items(insts),
+        term: Term::Ret {
+            width: 8,
+            a: name(1),
+        },
+    })?;
+    let mut params: Vec<Param> = Vec::new(alloc);
+    params.push(Param {
+        value: ValueId(0),
+        words: Items(Vec::new(alloc)),
+    })?;
+    Ok(Function {
+        name: Name::of(alloc, b"f")?,
+        lead: Items(Vec::new(alloc)),
+        width: 8,
+        params: Items(params),
+        tail: Name(Vec::new(alloc)),
+        values: Items(values),
+        blocks: Items(blocks),
+        calls: Items(Vec::new(alloc)),
+    })
+}
+
+#[test]
+fn only_bits_that_are_returned_are_asked_for(rt: HostRuntime) {
+    let f = truncating(rt.alloc()).expect(&rt, "memory");
+    assert!(rt; is_usable_function(&f));
+    let masks = masks(rt.alloc(), &f).expect(&rt, "memory");
+    assert!(rt; masks.as_slice() == [255, 255, 0].as_slice());
+}
