@@ -6,7 +6,7 @@ use Rattle.vfa_print.specs.Layout.{line_feed}
 use Rattle.vfa.specs.declared.command.Command.{Command}
 use Rattle.vfa.specs.declared.refusals.Refusal.{Refusal}
 use Rattle.vfa_opt.specs.Module.{Piece, IsModule, IsModuleText}
-use Rattle.vfa_opt.specs.Works.{IsRefined}
+use Rattle.vfa_opt.specs.Refined.{IsRefined}
 use Rattle.vfa.specs.Refusals.{most, refusal_text}
 use Rattle.vfa.specs.Stops.{IsRefusedFor}
 

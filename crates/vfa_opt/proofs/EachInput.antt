@@ -1,19 +1,16 @@
 -- Each input is a module or is refused, it has at most one list of pieces, and at most one text.
 use Rattle.std.proofs.Common.{◌≡◌, ◌+◌, ◌-◌, ◌⊎◌, inl, inr, ℕ, zero, suc, Bool, true, false, if◌then◌else◌, Option, Some, None, Result, Ok, Err, List, [], ◌∷◌, ◌++◌, length, refl, sym, ap, subst, ◌∙◌, slice_range, drop}
 use Rattle.vfa_ir.specs.declared.functions.Function.{Function}
-use Rattle.vfa_ir.specs.declared.functions.Lines.{Lines}
 use Rattle.vfa_ir.specs.declared.reasons.Outside.{Outside}
 use Rattle.vfa_ir.specs.declared.tokens.Token.{Token}
 use Rattle.vfa_ir.specs.DefinedNames.{first_repeated}
-use Rattle.vfa_ir.specs.Reads.{Reads, IsAccepted, IsReason}
-use Rattle.vfa_ir.specs.Tokens.{tokens_of}
 use Rattle.vfa_module.specs.declared.items.Item.{Item}
 use Rattle.vfa_module.specs.declared.items.SplitFault.{SplitFault}
 use Rattle.vfa_module.specs.Split.{Extent, is_clear, closing_brace, define_of_line, next_line, with_first, define_then, defines_after, defines_from, items_between, split_of}
 use Rattle.vfa_opt.specs.declared.jobs.Job.{Job}
 use Rattle.vfa_opt.specs.declared.refusals.Refused.{Refused}
 use Rattle.vfa_opt.specs.declared.work.Carried.{Carried}
-use Rattle.vfa_opt.specs.Acceptance.{in_module}
+use Rattle.vfa_opt.specs.Acceptance.{IsInside, IsOutside, in_module}
 use Rattle.vfa_opt.specs.Module.{Piece, copied, accepted, carried, IsDefinePiece, IsPiece, ArePieces, IsPrinted, IsPieceText, AreTexts, notes_of, function_names, carried_functions, Splits, IsModule, IsModuleText}
 use Rattle.vfa_opt.specs.Refusals.{IsRefusal}
 
@@ -76,17 +73,15 @@ split_not_out text e = defines_not_out text 0 0 1 text (split_out text (defines_
 -- ---- each input
 
 abbrev EachText : Type 0
-EachText = (text : List ℕ) → ((f : Function) × (lines : Lines) × IsAccepted text (tokens_of text) f lines)
-    ⊎ ((reason : Outside) × IsReason text (tokens_of text) reason)
+EachText = (text : List ℕ) → ((f : Function) × IsInside text f) ⊎ ((reason : Outside) × IsOutside text reason)
 
 false_true : false ≡ true → ⊥
 false_true e = cc
 
 module _ (each : EachText) where
-  define_piece : (line : ℕ) (text : List ℕ) →
-      ((f : Function) × (lines : Lines) × IsAccepted text (tokens_of text) f lines) ⊎ ((reason : Outside) × IsReason text (tokens_of text) reason) →
+  define_piece : (line : ℕ) (text : List ℕ) → ((f : Function) × IsInside text f) ⊎ ((reason : Outside) × IsOutside text reason) →
       (piece : Piece) × IsDefinePiece line text piece
-  define_piece line text (inl a) = (accepted a.0, record { lines = a.1; reads = a.2 })
+  define_piece line text (inl a) = (accepted a.0, a.1)
   define_piece line text (inr r) = (carried text (in_module line r.0), (refl, record { within = r.0; outside = r.1; same = refl }))
 
   item_piece : (input : List ℕ) (item : Item) → (piece : Piece) × IsPiece input item piece
@@ -128,15 +123,14 @@ module _ (each : EachText) where
 
 -- ---- at most one list of pieces
 
-abbrev OneReading : Type 0
-OneReading = (text : List ℕ) (f g : Function) (lines others : Lines) → Reads text f lines → Reads text g others → (f ≡ g) × (lines ≡ others)
+abbrev OneFunction : Type 0
+OneFunction = (text : List ℕ) (f g : Function) → IsInside text f → IsInside text g → f ≡ g
 
 abbrev OneReason : Type 0
-OneReason = (text : List ℕ) (a b : Outside) → IsReason text (tokens_of text) a → IsReason text (tokens_of text) b → a ≡ b
+OneReason = (text : List ℕ) (a b : Outside) → IsOutside text a → IsOutside text b → a ≡ b
 
 abbrev NoReason : Type 0
-NoReason = (text : List ℕ) (f : Function) (lines : Lines) (reason : Outside) →
-    IsAccepted text (tokens_of text) f lines → IsReason text (tokens_of text) reason → ⊥
+NoReason = (text : List ℕ) (f : Function) (reason : Outside) → IsInside text f → IsOutside text reason → ⊥
 
 some_same : {A : Type 0} (x y : A) → ◌≡◌ {A = Option A} (Some x) (Some y) → x ≡ y
 some_same x y e = cc
@@ -165,14 +159,14 @@ bad_line_same a b e = cc
 unclosed_bad_line : (a b : ℕ) → ◌≡◌ {A = Result (List Item) SplitFault} (Err (SplitFault.Unclosed a)) (Err (SplitFault.BadLine b)) → ⊥
 unclosed_bad_line a b e = cc
 
-module _ (reading : OneReading) (reason : OneReason) (none : NoReason) where
+module _ (function : OneFunction) (reason : OneReason) (none : NoReason) where
   one_define : (line : ℕ) (text : List ℕ) (a b : Piece) → IsDefinePiece line text a → IsDefinePiece line text b → a ≡ b
   one_define line text (copied s) b p q = absurd p
   one_define line text (accepted f) (copied t) p q = absurd q
-  one_define line text (accepted f) (accepted g) p q = ap accepted (reading text f g p.lines q.lines p.reads.reads q.reads.reads).0
-  one_define line text (accepted f) (carried t e) p q = absurd (none text f p.lines q.1.within p.reads q.1.outside)
+  one_define line text (accepted f) (accepted g) p q = ap accepted (function text f g p q)
+  one_define line text (accepted f) (carried t e) p q = absurd (none text f q.1.within p q.1.outside)
   one_define line text (carried s d) (copied t) p q = absurd q
-  one_define line text (carried s d) (accepted g) p q = absurd (none text g q.lines p.1.within q.reads p.1.outside)
+  one_define line text (carried s d) (accepted g) p q = absurd (none text g p.1.within q p.1.outside)
   one_define line text (carried s d) (carried t e) p q =
       let within = reason text p.1.within q.1.within p.1.outside q.1.outside in
       ap (λ x. carried x d) (p.0 ∙ sym q.0) ∙ ap (carried t) (p.1.same ∙ ap (in_module line) within ∙ sym q.1.same)

@@ -15,7 +15,8 @@ use Rattle.vfa_opt.specs.declared.refusals.Refused.{Refused}
 use Rattle.vfa_opt.specs.declared.work.Worked.{Worked}
 use Rattle.vfa_opt.specs.Module.{Piece, ArePieces, AreTexts, piece_name, piece_carried, piece_note, function_names, carried_functions, notes_of, Splits, IsModule, IsModuleText}
 use Rattle.vfa_opt.specs.Refusals.{IsRefusal}
-use Rattle.vfa_opt.specs.Works.{IsPlaced, IsRefined, IsWorked, AreWorked, IsRefusedFor, texts_in, notes_in, names_in, carried_in}
+use Rattle.vfa_opt.specs.Refined.{IsRefined}
+use Rattle.vfa_opt.specs.Works.{IsPlaced, IsWorked, AreWorked, IsRefusedFor, texts_in, notes_in, names_in, carried_in}
 use Rattle.vfa_opt.proofs.ReasonLines.{feeds_few}
 
 -- ---- items

@@ -1,40 +1,23 @@
 -- The work on one item of a module, and what the works of all items make.
 use Rattle.std.specs.Prelude.{◌≡◌, ◌≤◌, ⊤, ℕ, Bool, true, List, [], ◌∷◌, ◌+◌, length, flat_map, filter_map, Some, None}
-use Rattle.vfa_ir.specs.declared.functions.Function.{Function}
-use Rattle.vfa_ir.specs.declared.functions.Lines.{Lines}
 use Rattle.vfa_ir.specs.DefinedNames.{first_repeated}
-use Rattle.vfa_ir.specs.Reads.{Reads}
 use Rattle.vfa_module.specs.declared.items.Item.{Item}
 use Rattle.vfa_opt.specs.declared.jobs.Job.{Job}
 use Rattle.vfa_opt.specs.declared.refusals.Refused.{Refused}
 use Rattle.vfa_opt.specs.declared.work.Carried.{Carried}
 use Rattle.vfa_opt.specs.declared.work.Worked.{Worked}
-use Rattle.vfa_opt.specs.First.{IsFirst}
-use Rattle.vfa_opt.specs.Module.{Piece, copied, accepted, carried, IsPiece, IsPieceText, IsPrinted, piece_name, piece_carried, piece_note}
-use Rattle.vfa_opt.specs.Refines.{Refines}
+use Rattle.vfa_opt.specs.Module.{Piece, IsPiece, IsPieceText, piece_name, piece_carried, piece_note}
+use Rattle.vfa_opt.specs.Refined.{IsRefined}
 
--- an item whose offsets are in order within a text, and whose line is one of it
+-- offsets in order within a text
 pub record IsRange (input : List ℕ) (start end : ℕ) : Type 0 where
   pub order : start ≤ end
   pub within : end ≤ length input
 
+-- an item whose offsets lie so, and whose line is one of the text
 abbrev pub IsPlaced : List ℕ → Item → Type 0
 IsPlaced input (Item.Lines start end) = IsRange input start end
 IsPlaced input (Item.Define start end line) = IsRange input start end × (line ≤ length input + 1)
-
--- A text that reads as a function which refines this one. Where no constants are folded, it is this one.
-pub record IsRefinement (f : Function) (text : List ℕ) : Type 0 where
-  pub function : Function
-  pub lines : Lines
-  pub reads : Reads text function lines
-  pub refines : Refines f function
-  pub same : (IsFirst f → ⊥) → function ≡ f
-
--- what `opt` writes for an accepted function reads as a function which refines it
-abbrev pub IsRefined : Job → Piece → Type 0
-IsRefined Job.Opt (copied _) = ⊤
-IsRefined Job.Opt (accepted f) = (text : List ℕ) → IsPrinted f text → IsRefinement f text
-IsRefined Job.Opt (carried _ _) = ⊤
 
 -- What a job makes of a piece: its text, the note, the name where it is an accepted function, and the function with its
 -- reason where it stays as it is.

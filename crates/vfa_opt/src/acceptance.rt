@@ -1,6 +1,6 @@
 //! Which defines are functions of the profile.
 
-ghost use Rattle.std.specs.Prelude.{◌≡◌, ◌⊎◌, IfOk, IfErr, OnOk};
+ghost use Rattle.std.specs.Prelude.{◌≡◌, ◌⊎◌, ℕ, List, IfOk, IfErr, OnOk};
 ghost use Rattle.vfa_ir.specs.Tokens.{tokens_of};
 ghost use Rattle.vfa_ir.specs.declared.functions.Function.{Function};
 ghost use Rattle.vfa_ir.specs.declared.reasons.Outside.{Outside};
@@ -9,7 +9,9 @@ ghost use Rattle.vfa_opt.specs.Acceptance.{IsInside, IsOutside};
 
 use std::alloc::Global;
 use vfa_ir::{Function, Outside, Token};
-use vfa_read::read_function;
+use vfa_read::{
+    accepted_has_no_reason, accepted_or_reason, one_reading, one_reason, read_function,
+};
 
 /// The function of the profile that a text is, which has these tokens; or the first reason why it is none.
 ///
@@ -29,4 +31,22 @@ pub fn accept(alloc: Global, text: &[u8], tokens: &[Token]) -> Result<Function, 
         Ok(read) => Ok(read.function),
         Err(reason) => Err(reason),
     }
+}
+
+/// A law: each text is a function of the profile, or there is a reason why it is none.
+pub fn inside_or_outside()
+    ensures { (text : List ℕ) → ((f : Function) × IsInside text f) ⊎ ((reason : Outside) × IsOutside text reason) }
+{
+    accepted_or_reason();
+}
+
+/// A law: a text is at most one function, there is at most one reason why it is none, and none where it is one.
+pub fn one_answer()
+    ensures function { (text : List ℕ) (f g : Function) → IsInside text f → IsInside text g → f ≡ g }
+    ensures reason { (text : List ℕ) (a b : Outside) → IsOutside text a → IsOutside text b → a ≡ b }
+    ensures either { (text : List ℕ) (f : Function) (reason : Outside) → IsInside text f → IsOutside text reason → ⊥ }
+{
+    one_reading();
+    one_reason();
+    accepted_has_no_reason();
 }

@@ -6,15 +6,13 @@ ghost use Rattle.vfa_opt.specs.declared.refusals.Refused.{Refused};
 ghost use Rattle.vfa_opt.specs.Module.{Piece, Splits, IsModule, IsModuleText};
 ghost use Rattle.vfa_opt.specs.Refusals.{IsRefusal};
 
-use vfa_read::{accepted_has_no_reason, accepted_or_reason, one_reading, one_reason};
+use crate::acceptance::{inside_or_outside, one_answer};
 
 /// An input has at most one list of pieces.
 pub fn one_list_of_pieces()
     ensures { (input : List ℕ) (pieces others : List Piece) → Splits input pieces → Splits input others → pieces ≡ others }
 {
-    one_reading();
-    one_reason();
-    accepted_has_no_reason();
+    one_answer();
 }
 
 /// Each input is a module, or a reason to refuse it holds.
@@ -22,7 +20,7 @@ pub fn module_or_refusal()
     ensures { (strict : Bool) (input : List ℕ) →
         ((pieces : List Piece) × IsModule strict input pieces) ⊎ ((reason : Refused) × IsRefusal strict input reason) }
 {
-    accepted_or_reason();
+    inside_or_outside();
 }
 
 /// At most one reason to refuse an input holds, and none of a module.

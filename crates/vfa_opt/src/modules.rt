@@ -5,8 +5,9 @@ ghost use Rattle.std.specs.Prelude.{◌≡◌, ◌≤◌, ◌⊎◌, ◌^◌, Bo
 ghost use Rattle.std.specs.List.{AllByRecursion};
 ghost use Rattle.vfa_module.specs.Split.{split_of};
 ghost use Rattle.vfa_opt.specs.Module.{Piece, IsModule, IsModuleText};
+ghost use Rattle.vfa_opt.specs.Refined.{IsRefined};
 ghost use Rattle.vfa_opt.specs.Refusals.{IsRefusal};
-ghost use Rattle.vfa_opt.specs.Works.{IsPlaced, IsRefined, AreWorked};
+ghost use Rattle.vfa_opt.specs.Works.{IsPlaced, AreWorked};
 ghost use Rattle.vfa_opt.specs.declared.refusals.Refused.{Refused};
 ghost use Rattle.vfa_opt.specs.declared.refusals.Refused.TheVariants.{Memory};
 

@@ -5,7 +5,7 @@ ghost use Rattle.vfa_ir.specs.Reads.{Fit};
 ghost use Rattle.vfa_opt.specs.First.{IsFirst};
 ghost use Rattle.vfa_opt.specs.Fold.{folded as constants_folded};
 ghost use Rattle.vfa_opt.specs.Module.{IsPrinted};
-ghost use Rattle.vfa_opt.specs.Works.{IsRefinement};
+ghost use Rattle.vfa_opt.specs.Refined.{IsRefinement};
 
 use crate::first::is_first;
 use crate::fold::fold;

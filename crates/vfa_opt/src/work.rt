@@ -8,7 +8,8 @@ ghost use Rattle.vfa_ir.specs.declared.reasons.Outside.{Outside};
 ghost use Rattle.vfa_ir.specs.declared.reasons.Outside.TheVariants.{Memory};
 ghost use Rattle.vfa_opt.specs.Acceptance.{IsInside, IsOutside, in_module as shown_reason, line_of};
 ghost use Rattle.vfa_opt.specs.Module.{Piece, copied, accepted, carried, IsDefinePiece, IsPieceText};
-ghost use Rattle.vfa_opt.specs.Works.{IsPlaced, IsRefined, IsWorkOn, IsWorked};
+ghost use Rattle.vfa_opt.specs.Refined.{IsRefined};
+ghost use Rattle.vfa_opt.specs.Works.{IsPlaced, IsWorkOn, IsWorked};
 
 use crate::acceptance::accept;
 use crate::defines::define_name;
