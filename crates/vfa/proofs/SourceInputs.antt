@@ -1,8 +1,8 @@
 -- What a source gave, where it tells what it has left.
-use Rattle.std.proofs.Common.{◌≡◌, ◌≤◌, ◌<◌, ◌+◌, ℕ, Option, Some, None, List, ◌++◌, length, length-append, ap, arith}
+use Rattle.std.proofs.Common.{◌≡◌, ◌≤◌, ◌<◌, ℕ, Option, Some, None, List, length, length-append, ap, arith}
 use Rattle.vfa_io.specs.Bytes.{Gave}
 use Rattle.vfa_io.specs.States.{SourceState}
-use Rattle.vfa.specs.declared.command.Job.{Job}
+use Rattle.vfa_opt.specs.declared.jobs.Job.{Job}
 use Rattle.vfa.specs.Command.{IsInputOf}
 
 none_some : {A : Type 0} (x : A) → ◌≡◌ {A = Option A} None (Some x) → ⊥

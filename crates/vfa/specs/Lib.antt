@@ -1,14 +1,5 @@
+pub mod Asked
 pub mod Command
-pub mod First
-pub mod Fold
-pub mod KnownNames
-pub mod Left
-pub mod Marks
-pub mod Meaning
-pub mod Module
-pub mod Outcomes
-pub mod Parts
-pub mod Refines
 pub mod Refusals
 pub mod Run
 pub mod Status

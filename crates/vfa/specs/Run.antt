@@ -4,9 +4,9 @@ use Rattle.vfa_io.specs.Bytes.{GotPrefix}
 use Rattle.vfa_io.specs.States.{SourceState, SinkState, Change, SinkFailed, Got, GotNothing}
 use Rattle.vfa_print.specs.Layout.{line_feed}
 use Rattle.vfa.specs.declared.command.Command.{Command}
-use Rattle.vfa.specs.declared.modules.Refused.{Refused}
-use Rattle.vfa.specs.Module.{Piece, IsModule, IsModuleText}
-use Rattle.vfa.specs.Parts.{IsRefined}
+use Rattle.vfa.specs.declared.refusals.Refusal.{Refusal}
+use Rattle.vfa_opt.specs.Module.{Piece, IsModule, IsModuleText}
+use Rattle.vfa_opt.specs.Refined.{IsRefined}
 use Rattle.vfa.specs.Refusals.{most, refusal_text}
 use Rattle.vfa.specs.Stops.{IsRefusedFor}
 
@@ -30,8 +30,8 @@ Reports err message = Got err message ⊎ (SinkFailed err × GotPrefix err.befor
 -- function which refines it.
 pub record IsAnswer (command : Command) (input text notes : List ℕ) : Type 0 where
   pub within : length input ≤ most
-  pub is : IsModuleText command input text notes
-  pub refined : (pieces : List Piece) → IsModule command input pieces → All (IsRefined command.job) pieces
+  pub is : IsModuleText command.job command.strict input text notes
+  pub refined : (pieces : List Piece) → IsModule command.strict input pieces → All (IsRefined command.job) pieces
 
 -- ---- ends
 
@@ -45,7 +45,7 @@ pub record IsDone (command : Command) (input : List ℕ) (out err : Change SinkS
 
 -- the input is refused for a reason that is reported, and this was read of it
 pub record IsRefused (command : Command) (input : List ℕ) (source : Change SourceState) (err : Change SinkState) : Type 0 where
-  pub reason : Refused
+  pub reason : Refusal
   pub refused : IsRefusedFor command input source reason
   pub says : Reports err (refusal_text reason)
 

@@ -2,10 +2,8 @@
 #![tactic(auto)]
 
 mod command;
-mod fold;
 mod laws;
-pub mod meaning;
-mod modules;
+mod refusals;
 mod run;
 mod status;
 #[cfg(test)]

@@ -3,8 +3,8 @@
 ghost use Rattle.std.specs.Prelude.{◌≡◌, ℕ, ◌≤◌, ◌⊎◌, ◌↔◌, List, IfOk, IfErr, OnOk, OnErr, length};
 ghost use Rattle.vfa_io.specs.States.{change, SourceFailed, GaveAtMost, GaveMore, SinkFailed, Got, GotNothing};
 ghost use Rattle.vfa.specs.declared.command.Command.{Command};
-ghost use Rattle.vfa.specs.declared.modules.Refused.{Refused};
-ghost use Rattle.vfa.specs.declared.modules.Refused.TheVariants.{TooLong};
+ghost use Rattle.vfa.specs.declared.refusals.Refusal.{Refusal};
+ghost use Rattle.vfa.specs.declared.refusals.Refusal.TheVariants.{TooLong};
 ghost use Rattle.vfa.specs.declared.run.Stop.TheVariants.{Memory as OutOfMemory};
 ghost use Rattle.vfa.specs.Command.{texts, AreCommand, Asks, IsInputOf, IsReadBy};
 ghost use Rattle.vfa.specs.Refusals.{most, IsRefusal, refusal_text};
@@ -12,10 +12,11 @@ ghost use Rattle.vfa.specs.Run.{usage_line, fault_read, Reports, IsAnswer, IsDon
 ghost use Rattle.vfa.specs.Stops.{IsInputStop, IsStop, IsStopOf, IsReadStop};
 
 use crate::command::{Command, command_of};
-use crate::modules::{ModuleText, Refused, module_out, refusal_message};
+use crate::refusals::{Refusal, message_of};
 use crate::status::Status;
 use std::alloc::Global;
 use vfa_io::{Failed, ReadFault, Sink, Source, read_all, write_all};
+use vfa_opt::{Refused, Text, module_out};
 
 /// The most bytes that an input may have.
 const MOST: usize = 1 << 24;
@@ -35,57 +36,53 @@ pub enum Stop {
 }
 
 // The stop of a refusal.
-fn stop_of(alloc: Global, refused: &Refused) -> Stop
-    ensures { IsStopOf refused.now result }
+fn stop_of(alloc: Global, refusal: &Refusal) -> Stop
+    ensures { IsStopOf refusal.now result }
 {
-    if let Refused::Memory = refused {
+    if let Refusal::Module(Refused::Memory) = refusal {
         return Stop::Memory;
     }
-    match refusal_message(alloc, refused) {
+    match message_of(alloc, refusal) {
         Ok(message) => Stop::Refused(message),
         Err(_) => Stop::Memory,
     }
 }
 
 // The command's text of the input's module, and the notes on it.
-fn answer(alloc: Global, command: Command, input: &[u8]) -> Result<ModuleText, Stop>
+fn answer(alloc: Global, command: &Command, input: &[u8]) -> Result<Text, Stop>
     requires { length input.now ≤ most }
-    ensures answer { IfOk result (λ text. IsAnswer command input.now text.out.items text.notes.items) }
-    ensures stop { IfErr result (IsInputStop command input.now) }
+    ensures answer { IfOk result (λ text. IsAnswer command.now input.now text.out.items text.notes.items) }
+    ensures stop { IfErr result (IsInputStop command.now input.now) }
     ensures read { IfErr result (λ stop. IsReadStop stop → ⊥) }
-    ensures refuses { (reason : Refused) → IsRefusal command input.now reason → OnOk result ⊥ × IfErr result (IsStopOf reason) }
+    ensures refuses { (reason : Refusal) → IsRefusal command.now input.now reason → OnOk result ⊥ × IfErr result (IsStopOf reason) }
 {
-    match module_out(alloc, command, input) {
+    match module_out(alloc, &command.job, command.strict, input) {
         Ok(text) => Ok(text),
-        Err(refused) => Err(stop_of(alloc, &refused)),
+        Err(refused) => Err(stop_of(alloc, &Refusal::Module(refused))),
     }
 }
 
 // The text and the notes for all that the source has left.
-fn answer_source<S: Source>(
-    alloc: Global,
-    command: Command,
-    source: &mut S,
-) -> Result<ModuleText, Stop>
-    ensures answer { (input : List ℕ) → IsInputOf command.job (S.state source.old) input →
-        IfOk result (λ text. IsAnswer command input text.out.items text.notes.items) }
-    ensures end { (input : List ℕ) → IsInputOf command.job (S.state source.old) input →
-        OnOk result (IsReadBy command.job (change S.state source.old source.new)) }
+fn answer_source<S: Source>(alloc: Global, command: &Command, source: &mut S) -> Result<Text, Stop>
+    ensures answer { (input : List ℕ) → IsInputOf command.now.job (S.state source.old) input →
+        IfOk result (λ text. IsAnswer command.now input text.out.items text.notes.items) }
+    ensures end { (input : List ℕ) → IsInputOf command.now.job (S.state source.old) input →
+        OnOk result (IsReadBy command.now.job (change S.state source.old source.new)) }
     ensures read { IfErr result (λ stop. IsReadStop stop →
         SourceFailed (change S.state source.old source.new) × GaveAtMost (change S.state source.old source.new) most) }
-    ensures stop { (input : List ℕ) → IsInputOf command.job (S.state source.old) input →
-        IfErr result (IsStop command input (change S.state source.old source.new)) }
-    ensures refuses { (input : List ℕ) → IsInputOf command.job (S.state source.old) input →
+    ensures stop { (input : List ℕ) → IsInputOf command.now.job (S.state source.old) input →
+        IfErr result (IsStop command.now input (change S.state source.old source.new)) }
+    ensures refuses { (input : List ℕ) → IsInputOf command.now.job (S.state source.old) input →
         (SourceFailed (change S.state source.old source.new) → ⊥) →
-        (reason : Refused) → IsRefusal command input reason → OnOk result ⊥ × IfErr result (IsStopOf reason) }
-    ensures too_long { (input : List ℕ) → IsInputOf command.job (S.state source.old) input →
+        (reason : Refusal) → IsRefusal command.now input reason → OnOk result ⊥ × IfErr result (IsStopOf reason) }
+    ensures too_long { (input : List ℕ) → IsInputOf command.now.job (S.state source.old) input →
         GaveMore (change S.state source.old source.new) most → OnOk result ⊥ × IfErr result (IsStopOf TooLong) }
     ensures later { (S.state source.old).faults ≤ (S.state source.new).faults }
 {
     let input = match read_all(alloc, source, MOST) {
         Ok(input) => input,
         Err(ReadFault::Read) => return Err(Stop::Read),
-        Err(ReadFault::TooLong) => return Err(stop_of(alloc, &Refused::TooLong)),
+        Err(ReadFault::TooLong) => return Err(stop_of(alloc, &Refusal::TooLong)),
         Err(ReadFault::Memory) => return Err(Stop::Memory),
     };
     answer(alloc, command, &input)
@@ -100,7 +97,7 @@ fn say<E: Sink>(err: &mut E, message: &[u8])
 }
 
 // Writes the text to out, and then the notes to err.
-fn write_answer<O: Sink, E: Sink>(out: &mut O, err: &mut E, text: &ModuleText) -> Result<(), Failed>
+fn write_answer<O: Sink, E: Sink>(out: &mut O, err: &mut E, text: &Text) -> Result<(), Failed>
     ensures text { OnOk result (Got (change O.state out.old out.new) text.now.out.items) }
     ensures notes { OnOk result (Got (change E.state err.old err.new) text.now.notes.items) }
     ensures failed { OnErr result
@@ -115,18 +112,18 @@ fn write_answer<O: Sink, E: Sink>(out: &mut O, err: &mut E, text: &ModuleText) -
 // Runs a command.
 fn run_command<S: Source, O: Sink, E: Sink>(
     alloc: Global,
-    command: Command,
+    command: &Command,
     source: &mut S,
     out: &mut O,
     err: &mut E,
 ) -> Status
     ensures not_usage { result ≡ Status.Usage → ⊥ }
-    ensures done { (input : List ℕ) → IsInputOf command.job (S.state source.old) input → result ≡ Status.Done →
-        IsDone command input (change O.state out.old out.new) (change E.state err.old err.new) }
-    ensures done_reads { (input : List ℕ) → IsInputOf command.job (S.state source.old) input → result ≡ Status.Done →
-        IsReadBy command.job (change S.state source.old source.new) }
-    ensures refused { (input : List ℕ) → IsInputOf command.job (S.state source.old) input → result ≡ Status.Refused →
-        IsRefused command input (change S.state source.old source.new) (change E.state err.old err.new) }
+    ensures done { (input : List ℕ) → IsInputOf command.now.job (S.state source.old) input → result ≡ Status.Done →
+        IsDone command.now input (change O.state out.old out.new) (change E.state err.old err.new) }
+    ensures done_reads { (input : List ℕ) → IsInputOf command.now.job (S.state source.old) input → result ≡ Status.Done →
+        IsReadBy command.now.job (change S.state source.old source.new) }
+    ensures refused { (input : List ℕ) → IsInputOf command.now.job (S.state source.old) input → result ≡ Status.Refused →
+        IsRefused command.now input (change S.state source.old source.new) (change E.state err.old err.new) }
     ensures refused_writes_nothing { result ≡ Status.Refused → GotNothing (change O.state out.old out.new) }
     ensures read_fault { result ≡ Status.ReadFault → SourceFailed (change S.state source.old source.new) }
     ensures read_fault_within { result ≡ Status.ReadFault → GaveAtMost (change S.state source.old source.new) most }
@@ -134,18 +131,18 @@ fn run_command<S: Source, O: Sink, E: Sink>(
     ensures read_fault_writes_nothing { result ≡ Status.ReadFault → GotNothing (change O.state out.old out.new) }
     ensures write_fault { result ≡ Status.WriteFault →
         SinkFailed (change O.state out.old out.new) ⊎ SinkFailed (change E.state err.old err.new) }
-    ensures write_fault_writes { (input : List ℕ) → IsInputOf command.job (S.state source.old) input → result ≡ Status.WriteFault →
-        IsWriteFault command input (change O.state out.old out.new) (change E.state err.old err.new) }
+    ensures write_fault_writes { (input : List ℕ) → IsInputOf command.now.job (S.state source.old) input → result ≡ Status.WriteFault →
+        IsWriteFault command.now input (change O.state out.old out.new) (change E.state err.old err.new) }
     ensures memory { result ≡ Status.Memory →
         GotNothing (change O.state out.old out.new) × GotNothing (change E.state err.old err.new) }
-    ensures completes { (input : List ℕ) → IsInputOf command.job (S.state source.old) input →
+    ensures completes { (input : List ℕ) → IsInputOf command.now.job (S.state source.old) input →
         (SourceFailed (change S.state source.old source.new) → ⊥) → (SinkFailed (change O.state out.old out.new) → ⊥) →
-        (SinkFailed (change E.state err.old err.new) → ⊥) → ((reason : Refused) → IsRefusal command input reason → ⊥) →
+        (SinkFailed (change E.state err.old err.new) → ⊥) → ((reason : Refusal) → IsRefusal command.now input reason → ⊥) →
         (result ≡ Status.Done) ⊎ (result ≡ Status.Memory) }
-    ensures refuses { (input : List ℕ) → IsInputOf command.job (S.state source.old) input →
-        (SourceFailed (change S.state source.old source.new) → ⊥) → (reason : Refused) → IsRefusal command input reason →
+    ensures refuses { (input : List ℕ) → IsInputOf command.now.job (S.state source.old) input →
+        (SourceFailed (change S.state source.old source.new) → ⊥) → (reason : Refusal) → IsRefusal command.now input reason →
         (result ≡ Status.Memory) ⊎ ((result ≡ Status.Refused) × Reports (change E.state err.old err.new) (refusal_text reason)) }
-    ensures too_long { (input : List ℕ) → IsInputOf command.job (S.state source.old) input →
+    ensures too_long { (input : List ℕ) → IsInputOf command.now.job (S.state source.old) input →
         GaveMore (change S.state source.old source.new) most →
         (result ≡ Status.Memory) ⊎ ((result ≡ Status.Refused) × Reports (change E.state err.old err.new) (refusal_text TooLong)) }
     ensures later { ((S.state source.old).faults ≤ (S.state source.new).faults)
@@ -221,10 +218,10 @@ pub fn vfa_run<R: AllocGlobal, S: Source, O: Sink, E: Sink>(
     // whether its count rose or not.
     ensures completes { (command : Command) (input : List ℕ) → Asks (texts words.now) (S.state source.old) command input →
         (SourceFailed (change S.state source.old source.new) → ⊥) → (SinkFailed (change O.state out.old out.new) → ⊥) →
-        (SinkFailed (change E.state err.old err.new) → ⊥) → ((reason : Refused) → IsRefusal command input reason → ⊥) →
+        (SinkFailed (change E.state err.old err.new) → ⊥) → ((reason : Refusal) → IsRefusal command input reason → ⊥) →
         (result ≡ Status.Done) ⊎ (result ≡ Status.Memory) }
     ensures refuses { (command : Command) (input : List ℕ) → Asks (texts words.now) (S.state source.old) command input →
-        (SourceFailed (change S.state source.old source.new) → ⊥) → (reason : Refused) → IsRefusal command input reason →
+        (SourceFailed (change S.state source.old source.new) → ⊥) → (reason : Refusal) → IsRefusal command input reason →
         (result ≡ Status.Memory) ⊎ ((result ≡ Status.Refused) × Reports (change E.state err.old err.new) (refusal_text reason)) }
     ensures too_long { (command : Command) (input : List ℕ) → Asks (texts words.now) (S.state source.old) command input →
         GaveMore (change S.state source.old source.new) most →
@@ -238,5 +235,5 @@ pub fn vfa_run<R: AllocGlobal, S: Source, O: Sink, E: Sink>(
         say(err, USAGE);
         return Status::Usage;
     };
-    run_command(rt.alloc(), command, source, out, err)
+    run_command(rt.alloc(), &command, source, out, err)
 }

@@ -5,6 +5,7 @@ mod faults;
 mod limits;
 mod printed;
 mod refused;
+mod strict;
 
 use crate::run::vfa_run;
 use crate::status::Status;
@@ -51,21 +52,34 @@ struct Ends {
     err: MemSink,
 }
 
-/// Runs a command of one word.
-fn check_run<R: AllocGlobal + Abort>(
+/// Runs a command of these words.
+fn check_words<R: AllocGlobal + Abort>(
     rt: &R,
-    word: &str,
+    words: &[&str],
     mut ends: Ends,
     want: End,
 ) -> Result<(), Fail> {
-    let words = vec![in rt.alloc(); String::from_str(rt.alloc(), word)?]?;
+    let mut all = Vec::new(rt.alloc());
+    for word in words {
+        all.push(String::from_str(rt.alloc(), word)?)?;
+    }
     assert_eq!(rt;
-        vfa_run(rt, &words, &mut ends.source, &mut ends.out, &mut ends.err),
+        vfa_run(rt, &all, &mut ends.source, &mut ends.out, &mut ends.err),
         want.status
     );
     assert_eq!(rt; ends.out.bytes(), want.out);
     assert_eq!(rt; ends.err.bytes(), want.err);
     Ok(())
+}
+
+/// Runs a command of one word.
+fn check_run<R: AllocGlobal + Abort>(
+    rt: &R,
+    word: &str,
+    ends: Ends,
+    want: End,
+) -> Result<(), Fail> {
+    check_words(rt, &[word], ends, want)
 }
 
 /// A source over the input in pieces of 8 bytes, of whose calls the one of this number fails, and sinks with much room.

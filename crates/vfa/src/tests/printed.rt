@@ -7,7 +7,7 @@ const LINES: &[u8] = b"source_filename = \"a.c\"
 ";
 
 // What clang writes, shortened.
-const CLANG: &[u8] = b"; ModuleID = 'a.c'
+pub const CLANG: &[u8] = b"; ModuleID = 'a.c'
 source_filename = \"a.c\"
 target datalayout = \"e-m:e-i64:64\"
 target triple = \"x86_64-unknown-linux-gnu\"

@@ -2,4 +2,4 @@ use Rattle.vfa.proofs.EachInput.{module_or_refused}
 use Rattle.vfa.proofs.laws.module_or_refusal.Goals as goal
 
 pub returns : goal.returns
-returns c = module_or_refused c.accepted_or_reason.ensures
+returns c = λ command input. module_or_refused command input c.module_or_refusal.ensures

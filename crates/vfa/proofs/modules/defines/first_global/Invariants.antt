@@ -1,6 +1,0 @@
-use Rattle.std.proofs.Common.{◌≡◌, drop}
-use Rattle.vfa.specs.Module.{first_global as first_of}
-use Rattle.vfa.proofs.modules.defines.first_global.Given as goal
-
-abbrev pub invariant-tokens : goal.invariant-tokens
-invariant-tokens l = first_of (drop l.token-index l.all) ≡ first_of l.all

@@ -1,5 +1,0 @@
-use Rattle.vfa.proofs.PieceLists.{cover_placed}
-use Rattle.vfa.proofs.modules.items_of.Goals as goal
-
-pub returns-in-Ok-clause-places : goal.returns-in-Ok-clause-places
-returns-in-Ok-clause-places c = cover_placed c.args.bytes.now 0 _ c.in-Ok.ensures.cover

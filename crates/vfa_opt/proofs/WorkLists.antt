@@ -1,0 +1,194 @@
+-- The works on the items of a module, and the pieces that they are works on.
+use Rattle.std.proofs.Common.{◌≡◌, ◌<◌, ◌≤◌, ◌+◌, ◌⊎◌, inl, inr, ℕ, Bool, true, None, Result, Ok, Err, List, [], ◌∷◌, ◌++◌, length, take, get_or, refl, sym, ap, subst, ◌∙◌, arith}
+use Rattle.std.specs.Prelude.{All, IfOk, IfErr, OnOk}
+use Rattle.std.specs.List.{AllByRecursion, cons_option}
+use Rattle.std.proofs.lemmas.List.{length-take, take_more, take_all}
+use Rattle.std.proofs.lemmas.List.Elements.{All-from_recursion}
+use Rattle.vfa_ir.specs.DefinedNames.{first_repeated}
+use Rattle.vfa_ir.specs.Tokens.{line_feeds}
+use Rattle.vfa_module.specs.declared.items.Item.{Item}
+use Rattle.vfa_module.specs.Defines.{IsPart}
+use Rattle.vfa_module.specs.Split.{Cover, start_of, end_of, split_of}
+use Rattle.vfa_opt.specs.declared.jobs.Job.{Job}
+use Rattle.vfa_opt.specs.declared.joined.Text.{Text}
+use Rattle.vfa_opt.specs.declared.refusals.Refused.{Refused}
+use Rattle.vfa_opt.specs.declared.work.Worked.{Worked}
+use Rattle.vfa_opt.specs.Module.{Piece, ArePieces, AreTexts, piece_name, piece_carried, piece_note, function_names, carried_functions, notes_of, Splits, IsModule, IsModuleText}
+use Rattle.vfa_opt.specs.Refusals.{IsRefusal}
+use Rattle.vfa_opt.specs.Refined.{IsRefined}
+use Rattle.vfa_opt.specs.Works.{IsPlaced, IsWorked, AreWorked, IsRefusedFor, texts_in, notes_in, names_in, carried_in}
+use Rattle.vfa_opt.proofs.ReasonLines.{feeds_few}
+
+-- ---- items
+
+cover_forward : (from to : ℕ) (items : List Item) → Cover from to items → from ≤ to
+cover_forward from to [] c = omega arith
+cover_forward from to (i ∷ rest) c = let r : end_of i ≤ to = cover_forward (end_of i) to rest c.2 in let s : from < end_of i = c.1 in omega arith
+
+placed : (input : List ℕ) (i : Item) → IsPart input i → start_of i ≤ end_of i → end_of i ≤ length input → IsPlaced input i
+placed input (Item.Lines start end) part a b = record { order = a; within = b }
+placed input (Item.Define start end line) part a b =
+    let lines : line ≡ 1 + line_feeds (take start input) = part.lines in
+    let few : line_feeds (take start input) ≤ length (take start input) = feeds_few (take start input) in
+    (record { order = a; within = b }, omega (arith, length-take start input, lines, few))
+
+pub cover_placed : (input : List ℕ) (from : ℕ) (items : List Item) → AllByRecursion (IsPart input) items → Cover from (length input) items →
+    AllByRecursion (IsPlaced input) items
+cover_placed input from [] parts c = tt
+cover_placed input from (i ∷ rest) parts c =
+    let r : end_of i ≤ length input = cover_forward (end_of i) (length input) rest c.2 in
+    let s : from < end_of i = c.1 in
+    let e : start_of i ≡ from = c.0 in
+    let o : start_of i ≤ end_of i = omega arith in
+    (placed input i parts.0 o r, cover_placed input (end_of i) rest parts.1 c.2)
+
+-- ---- works, one more
+
+worked_last : (job : Job) (input : List ℕ) (items : List Item) (all : List Worked) (item : Item) (worked : Worked) →
+    AreWorked job input items all → IsWorked job input item worked → AreWorked job input (items ++ item ∷ []) (all ++ worked ∷ [])
+worked_last job input [] [] item worked are is = (is, tt)
+worked_last job input [] (w ∷ all) item worked are is = absurd are
+worked_last job input (i ∷ items) [] item worked are is = absurd are
+worked_last job input (i ∷ items) (w ∷ all) item worked are is = (are.0, worked_last job input items all item worked are.1 is)
+
+pub worked_more : (job : Job) (input : List ℕ) (items : List Item) (i : ℕ) (d : Item) (all more : List Worked) (worked : Worked) → i < length items →
+    AreWorked job input (take i items) all → IsWorked job input (get_or items i d) worked → more ≡ all ++ worked ∷ [] →
+    AreWorked job input (take (i + 1) items) more
+worked_more job input items i d all more worked lt are is pushed =
+    subst (λ m. AreWorked job input (take (i + 1) items) m) (sym pushed)
+    (subst (λ front. AreWorked job input front (all ++ worked ∷ [])) (sym (take_more items i d lt))
+    (worked_last job input (take i items) all (get_or items i d) worked are is))
+
+pub worked_all : (job : Job) (input : List ℕ) (items : List Item) (i : ℕ) (all : List Worked) → length items ≤ i →
+    AreWorked job input (take i items) all → AreWorked job input items all
+worked_all job input items i all past are = subst (λ front. AreWorked job input front all) (take_all i items past) are
+
+-- ---- the pieces
+
+-- the pieces of the items, and what the works say of them
+pub record PiecesOf (job : Job) (input : List ℕ) (items : List Item) (all : List Worked) : Type 0 where
+  pub pieces : List Piece
+  pub are : ArePieces input items pieces
+  pub texts : AreTexts job pieces (texts_in all)
+  pub refined : AllByRecursion (IsRefined job) pieces
+  pub notes : notes_in all ≡ notes_of pieces
+  pub names : names_in all ≡ function_names pieces
+  pub carried : carried_in all ≡ carried_functions pieces
+
+one_more : (job : Job) (input : List ℕ) (item : Item) (items : List Item) (worked : Worked) (all : List Worked) → IsWorked job input item worked →
+    PiecesOf job input items all → PiecesOf job input (item ∷ items) (worked ∷ all)
+one_more job input item items worked all one rest = record {
+  pieces = one.piece ∷ rest.pieces;
+  are = (one.is, rest.are);
+  texts = (worked.text.items, texts_in all, one.work.text, rest.texts, refl);
+  refined = (one.work.refined, rest.refined);
+  notes = ap (λ n. n ++ notes_in all) one.work.note ∙ ap (λ n. piece_note one.piece ++ n) rest.notes;
+  names = ap (λ n. cons_option n (names_in all)) one.work.name ∙ ap (cons_option (piece_name one.piece)) rest.names;
+  carried = ap (λ n. cons_option n (carried_in all)) one.work.carried ∙ ap (cons_option (piece_carried one.piece)) rest.carried;
+}
+
+pub pieces_of : (job : Job) (input : List ℕ) (items : List Item) (all : List Worked) → AreWorked job input items all → PiecesOf job input items all
+pieces_of job input [] [] are = record { pieces = []; are = tt; texts = refl; refined = tt; notes = refl; names = refl; carried = refl }
+pieces_of job input [] (w ∷ all) are = absurd are
+pieces_of job input (i ∷ items) [] are = absurd are
+pieces_of job input (i ∷ items) (w ∷ all) are = one_more job input i items w all are.0 (pieces_of job input items all are.1)
+
+-- ---- modules
+
+module _ (job : Job) (strict : Bool) (input : List ℕ) (items : List Item) (all : List Worked) (split : split_of input ≡ Ok items) (are : AreWorked job input items all) where
+  abbrev found : PiecesOf job input items all
+  found = pieces_of job input items all are
+
+  abbrev splits : Splits input found.pieces
+  splits = record { items = items; split = split; are = found.are }
+
+  pub module_so : first_repeated [] (names_in all) ≡ None → (strict ≡ true → carried_in all ≡ []) → IsModule strict input found.pieces
+  module_so distinct whole = record {
+    splits = splits;
+    distinct = ap (first_repeated []) (sym found.names) ∙ distinct;
+    whole = λ is. sym found.carried ∙ whole is;
+  }
+
+  pub text_so : (out notes : List ℕ) → out ≡ texts_in all → notes ≡ notes_in all → first_repeated [] (names_in all) ≡ None →
+      (strict ≡ true → carried_in all ≡ []) → IsModuleText job strict input out notes
+  text_so out notes out_is notes_is distinct whole = record {
+    pieces = found.pieces;
+    «module» = module_so distinct whole;
+    texts = subst (λ o. AreTexts job found.pieces o) (sym out_is) found.texts;
+    notes_are = notes_is ∙ found.notes;
+  }
+
+  pub refined_so : first_repeated [] (names_in all) ≡ None → (strict ≡ true → carried_in all ≡ []) →
+      (pieces : List Piece) × IsModule strict input pieces × All (IsRefined job) pieces
+  refined_so distinct whole =
+      (found.pieces, module_so distinct whole, All-from_recursion (IsRefined job) found.pieces found.refined)
+
+  refusal_so : (e : Refused) → IsRefusedFor strict all e → IsRefusal strict input e
+  refusal_so (Refused.Unclosed start) is = absurd is
+  refusal_so (Refused.BadLine line) is = absurd is
+  refusal_so (Refused.DuplicateFunction name) is =
+      record { pieces = found.pieces; splits = splits; repeated = ap (first_repeated []) (sym found.names) ∙ is }
+  refusal_so (Refused.Strict name reason) is = (
+    is.0,
+    record {
+      pieces = found.pieces;
+      splits = splits;
+      distinct = ap (first_repeated []) (sym found.names) ∙ is.1;
+      later = is.2.0;
+      first = sym found.carried ∙ is.2.1;
+    },
+  )
+  refusal_so Refused.Memory is = absurd is
+
+  pub refused_so : (e : Refused) → (e ≡ Refused.Memory) ⊎ IsRefusedFor strict all e → (e ≡ Refused.Memory) ⊎ IsRefusal strict input e
+  refused_so e (inl memory) = inl memory
+  refused_so e (inr is) = inr (refusal_so e is)
+
+  pub text_in : (r : Result Text Refused) → IfOk r (λ text. text.out.items ≡ texts_in all) → IfOk r (λ text. text.notes.items ≡ notes_in all) →
+      OnOk r (first_repeated [] (names_in all) ≡ None) → OnOk r (strict ≡ true → carried_in all ≡ []) →
+      IfOk r (λ text. IsModuleText job strict input text.out.items text.notes.items)
+  text_in (Ok text) out notes distinct whole = text_so text.out.items text.notes.items out notes distinct whole
+  text_in (Err e) out notes distinct whole = tt
+
+  pub refined_in : (r : Result Text Refused) → OnOk r (first_repeated [] (names_in all) ≡ None) →
+      OnOk r (strict ≡ true → carried_in all ≡ []) → OnOk r ((pieces : List Piece) × IsModule strict input pieces × All (IsRefined job) pieces)
+  refined_in (Ok text) distinct whole = refined_so distinct whole
+  refined_in (Err e) distinct whole = tt
+
+  pub refused_in : (r : Result Text Refused) → IfErr r (λ e. (e ≡ Refused.Memory) ⊎ IsRefusedFor strict all e) →
+      IfErr r (λ e. (e ≡ Refused.Memory) ⊎ IsRefusal strict input e)
+  refused_in (Ok text) is = tt
+  refused_in (Err e) is = refused_so e is
+
+-- ---- answers
+
+module _ (job : Job) (strict : Bool) (input : List ℕ) where
+  pub refined_each : ((ps qs : List Piece) → Splits input ps → Splits input qs → ps ≡ qs) → (r : Result Text Refused) →
+      OnOk r ((pieces : List Piece) × IsModule strict input pieces × All (IsRefined job) pieces) →
+      OnOk r ((pieces : List Piece) → IsModule strict input pieces → All (IsRefined job) pieces)
+  refined_each one (Ok text) is = λ pieces m. subst (λ ps. All (IsRefined job) ps) (one is.0 pieces is.1.splits m.splits) is.2
+  refined_each one (Err e) is = tt
+
+  memory_for : (pieces : List Piece) → IsModule strict input pieces → ((reason : Refused) → IsModule strict input pieces → IsRefusal strict input reason → ⊥) →
+      (e : Refused) → (e ≡ Refused.Memory) ⊎ IsRefusal strict input e → e ≡ Refused.Memory
+  memory_for pieces m none e (inl memory) = memory
+  memory_for pieces m none e (inr is) = absurd (none e m is)
+
+  pub answers_in : ((pieces : List Piece) (reason : Refused) → IsModule strict input pieces → IsRefusal strict input reason → ⊥) → (r : Result Text Refused) →
+      IfErr r (λ e. (e ≡ Refused.Memory) ⊎ IsRefusal strict input e) → (pieces : List Piece) → IsModule strict input pieces →
+      IfErr r (λ e. e ≡ Refused.Memory)
+  answers_in none (Ok text) is pieces m = tt
+  answers_in none (Err e) is pieces m = memory_for pieces m (none pieces) e is
+
+  reason_for : ((a b : Refused) → IsRefusal strict input a → IsRefusal strict input b → a ≡ b) → (reason : Refused) → IsRefusal strict input reason →
+      (e : Refused) → (e ≡ Refused.Memory) ⊎ IsRefusal strict input e → (e ≡ reason) ⊎ (e ≡ Refused.Memory)
+  reason_for one reason holds e (inl memory) = inr memory
+  reason_for one reason holds e (inr is) = inl (one e reason is holds)
+
+  pub refuses_in : ((a b : Refused) → IsRefusal strict input a → IsRefusal strict input b → a ≡ b) →
+      ((pieces : List Piece) (reason : Refused) → IsModule strict input pieces → IsRefusal strict input reason → ⊥) → (r : Result Text Refused) →
+      IfOk r (λ text. IsModuleText job strict input text.out.items text.notes.items) →
+      IfErr r (λ e. (e ≡ Refused.Memory) ⊎ IsRefusal strict input e) → (reason : Refused) → IsRefusal strict input reason →
+      OnOk r ⊥ × IfErr r (λ e. (e ≡ reason) ⊎ (e ≡ Refused.Memory))
+  refuses_in one none (Ok text) has is reason holds = (none has.pieces reason has.«module» holds, tt)
+  refuses_in one none (Err e) has is reason holds = (tt, reason_for one reason holds e is)

@@ -1,0 +1,8 @@
+use Rattle.vfa_opt.proofs.EachInput.{one_refused, module_not_refused}
+use Rattle.vfa_opt.proofs.laws.one_refusal.Goals as goal
+
+pub returns-clause-one : goal.returns-clause-one
+returns-clause-one c = one_refused c.one_list_of_pieces.ensures
+
+pub returns-clause-none : goal.returns-clause-none
+returns-clause-none c = module_not_refused c.one_list_of_pieces.ensures

@@ -1,0 +1,24 @@
+use Rattle.std.proofs.Common.{◌∙◌, Ok, sym, ap, rules}
+use Rattle.vfa_opt.proofs.WorkLists.{text_in, refined_in, refused_in}
+use Rattle.vfa_opt.proofs.modules.worked_out.Goals as goal
+
+pub returns-in_err-items-clause-refused : goal.returns-in_err-items-clause-refused
+returns-in_err-items-clause-refused c = let refused = c.in_err-items.ensures.refused c.args.strict in search rules
+
+pub returns-clause-text : goal.returns-clause-text
+returns-clause-text c =
+    text_in c.args.job.now c.args.strict c.args.bytes.now c.deref.result.now c.in_ok-all.all.items
+    (c.in_ok-items.ensures.items ∙ ap (λ x. Ok x) (sym c.deref.ensures.value)) c.in_ok-all.ensures c.joined.result
+    c.joined.ensures.out c.joined.ensures.notes c.joined.ensures.distinct c.joined.ensures.whole
+
+pub returns-clause-refined : goal.returns-clause-refined
+returns-clause-refined c =
+    refined_in c.args.job.now c.args.strict c.args.bytes.now c.deref.result.now c.in_ok-all.all.items
+    (c.in_ok-items.ensures.items ∙ ap (λ x. Ok x) (sym c.deref.ensures.value)) c.in_ok-all.ensures c.joined.result
+    c.joined.ensures.distinct c.joined.ensures.whole
+
+pub returns-clause-refused : goal.returns-clause-refused
+returns-clause-refused c =
+    refused_in c.args.job.now c.args.strict c.args.bytes.now c.deref.result.now c.in_ok-all.all.items
+    (c.in_ok-items.ensures.items ∙ ap (λ x. Ok x) (sym c.deref.ensures.value)) c.in_ok-all.ensures c.joined.result
+    c.joined.ensures.refused

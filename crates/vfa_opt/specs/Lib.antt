@@ -1,0 +1,13 @@
+pub mod Acceptance
+pub mod First
+pub mod Fold
+pub mod KnownNames
+pub mod Left
+pub mod Marks
+pub mod Meaning
+pub mod Module
+pub mod Outcomes
+pub mod Refined
+pub mod Refines
+pub mod Refusals
+pub mod Works

@@ -1,0 +1,63 @@
+-- The work on one item of a module, and what the works of all items make.
+use Rattle.std.specs.Prelude.{◌≡◌, ◌≤◌, ⊤, ℕ, Bool, true, List, [], ◌∷◌, ◌+◌, length, flat_map, filter_map, Some, None}
+use Rattle.vfa_ir.specs.DefinedNames.{first_repeated}
+use Rattle.vfa_module.specs.declared.items.Item.{Item}
+use Rattle.vfa_opt.specs.declared.jobs.Job.{Job}
+use Rattle.vfa_opt.specs.declared.refusals.Refused.{Refused}
+use Rattle.vfa_opt.specs.declared.work.Carried.{Carried}
+use Rattle.vfa_opt.specs.declared.work.Worked.{Worked}
+use Rattle.vfa_opt.specs.Module.{Piece, IsPiece, IsPieceText, piece_name, piece_carried, piece_note}
+use Rattle.vfa_opt.specs.Refined.{IsRefined}
+
+-- offsets in order within a text
+pub record IsRange (input : List ℕ) (start end : ℕ) : Type 0 where
+  pub order : start ≤ end
+  pub within : end ≤ length input
+
+-- an item whose offsets lie so, and whose line is one of the text
+abbrev pub IsPlaced : List ℕ → Item → Type 0
+IsPlaced input (Item.Lines start end) = IsRange input start end
+IsPlaced input (Item.Define start end line) = IsRange input start end × (line ≤ length input + 1)
+
+-- What a job makes of a piece: its text, the note, the name where it is an accepted function, and the function with its
+-- reason where it stays as it is.
+pub record IsWorkOn (job : Job) (piece : Piece) (worked : Worked) : Type 0 where
+  pub text : IsPieceText job piece worked.text.items
+  pub refined : IsRefined job piece
+  pub note : worked.note.items ≡ piece_note piece
+  pub name : worked.name ≡ piece_name piece
+  pub carried : worked.carried ≡ piece_carried piece
+
+-- what a job makes of an item
+pub record IsWorked (job : Job) (input : List ℕ) (item : Item) (worked : Worked) : Type 0 where
+  pub piece : Piece
+  pub is : IsPiece input item piece
+  pub work : IsWorkOn job piece worked
+
+abbrev pub AreWorked : Job → List ℕ → List Item → List Worked → Type 0
+AreWorked job input [] [] = ⊤
+AreWorked job input (item ∷ items) (worked ∷ rest) = IsWorked job input item worked × AreWorked job input items rest
+AreWorked job input _ _ = ⊥
+
+-- the texts, the notes, the names of accepted functions and the functions that stay, in order
+abbrev pub texts_in : List Worked → List ℕ
+texts_in = flat_map (λ (worked : Worked). worked.text.items)
+
+abbrev pub notes_in : List Worked → List ℕ
+notes_in = flat_map (λ (worked : Worked). worked.note.items)
+
+abbrev pub names_in : List Worked → List (List ℕ)
+names_in = filter_map (λ (worked : Worked). worked.name)
+
+abbrev pub carried_in : List Worked → List Carried
+carried_in = filter_map (λ (worked : Worked). worked.carried)
+
+-- why a module is refused of which these are the works
+abbrev pub IsRefusedFor : Bool → List Worked → Refused → Type 0
+IsRefusedFor strict all (Refused.Unclosed _) = ⊥
+IsRefusedFor strict all (Refused.BadLine _) = ⊥
+IsRefusedFor strict all (Refused.DuplicateFunction name) = first_repeated [] (names_in all) ≡ Some name
+IsRefusedFor strict all (Refused.Strict name reason) =
+    (strict ≡ true) × (first_repeated [] (names_in all) ≡ None)
+    × ((later : List Carried) × (carried_in all ≡ record { name = name; reason = reason } ∷ later))
+IsRefusedFor strict all Refused.Memory = ⊥

@@ -1,0 +1,52 @@
+//! Which defines are functions of the profile.
+
+ghost use Rattle.std.specs.Prelude.{◌≡◌, ◌⊎◌, ℕ, List, IfOk, IfErr, OnOk};
+ghost use Rattle.vfa_ir.specs.Tokens.{tokens_of};
+ghost use Rattle.vfa_ir.specs.declared.functions.Function.{Function};
+ghost use Rattle.vfa_ir.specs.declared.reasons.Outside.{Outside};
+ghost use Rattle.vfa_ir.specs.declared.reasons.Outside.TheVariants.{Memory};
+ghost use Rattle.vfa_opt.specs.Acceptance.{IsInside, IsOutside};
+
+use std::alloc::Global;
+use vfa_ir::{Function, Outside, Token};
+use vfa_read::{
+    accepted_has_no_reason, accepted_or_reason, one_reading, one_reason, read_function,
+};
+
+/// The function of the profile that a text is, which has these tokens; or the first reason why it is none.
+///
+/// `Shape`, `TooMany`, `Duplicate` and `Unknown` come, in this order, exactly where the reader gives them. Lines count
+/// from 1 within the text.
+///
+/// `define i8 @f(i8 %x) { ret i8 %x }` is a function; with `%y` returned it is none, for `Unknown` of `y`.
+pub fn accept(alloc: Global, text: &[u8], tokens: &[Token]) -> Result<Function, Outside>
+    requires { tokens.now ≡ tokens_of text.now }
+    ensures inside { IfOk result (IsInside text.now) }
+    ensures outside { IfErr result (λ e. (e ≡ Memory) ⊎ IsOutside text.now e) }
+    ensures accepts { (f : Function) → IsInside text.now f → IfOk result (λ g. g ≡ f) × IfErr result (λ e. e ≡ Memory) }
+    ensures refuses { (reason : Outside) → IsOutside text.now reason →
+        OnOk result ⊥ × IfErr result (λ e. (e ≡ reason) ⊎ (e ≡ Memory)) }
+{
+    match read_function(alloc, text, tokens) {
+        Ok(read) => Ok(read.function),
+        Err(reason) => Err(reason),
+    }
+}
+
+/// A law: each text is a function of the profile, or there is a reason why it is none.
+pub fn inside_or_outside()
+    ensures { (text : List ℕ) → ((f : Function) × IsInside text f) ⊎ ((reason : Outside) × IsOutside text reason) }
+{
+    accepted_or_reason();
+}
+
+/// A law: a text is at most one function, there is at most one reason why it is none, and none where it is one.
+pub fn one_answer()
+    ensures function { (text : List ℕ) (f g : Function) → IsInside text f → IsInside text g → f ≡ g }
+    ensures reason { (text : List ℕ) (a b : Outside) → IsOutside text a → IsOutside text b → a ≡ b }
+    ensures either { (text : List ℕ) (f : Function) (reason : Outside) → IsInside text f → IsOutside text reason → ⊥ }
+{
+    one_reading();
+    one_reason();
+    accepted_has_no_reason();
+}

@@ -1,0 +1,8 @@
+//! What a module is read for.
+
+/// What is made of a module.
+#[derive(Debug, Drop, PartialEq, Eq)]
+pub enum Job {
+    /// The module with the constants of its functions folded.
+    Opt,
+}

@@ -1,0 +1,25 @@
+//! The work on modules: from a module's text to the text with its functions optimised, and the notes on those that stay as
+//! they are.
+#![tactic(auto)]
+
+mod acceptance;
+mod defines;
+mod first;
+mod fold;
+mod jobs;
+mod joined;
+mod laws;
+pub mod meaning;
+mod modules;
+mod names;
+mod notes;
+mod printed;
+mod refusals;
+mod work;
+
+pub use jobs::Job;
+pub use joined::Text;
+pub use laws::{module_or_refusal, one_list_of_pieces, one_refusal, one_text};
+pub use modules::module_out;
+pub use notes::refusal_message;
+pub use refusals::Refused;

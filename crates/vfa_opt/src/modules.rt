@@ -1,0 +1,83 @@
+//! Whole modules: each function of the profile is printed, with its constants folded where it is of one block of bitwise
+//! operations, and all other bytes stay as they are.
+
+ghost use Rattle.std.specs.Prelude.{◌≡◌, ◌≤◌, ◌⊎◌, ◌^◌, Bool, List, length, All, Ok, OnOk, IfOk, IfErr};
+ghost use Rattle.std.specs.List.{AllByRecursion};
+ghost use Rattle.vfa_module.specs.Split.{split_of};
+ghost use Rattle.vfa_opt.specs.Module.{Piece, IsModule, IsModuleText};
+ghost use Rattle.vfa_opt.specs.Refined.{IsRefined};
+ghost use Rattle.vfa_opt.specs.Refusals.{IsRefusal};
+ghost use Rattle.vfa_opt.specs.Works.{IsPlaced, AreWorked};
+ghost use Rattle.vfa_opt.specs.declared.refusals.Refused.{Refused};
+ghost use Rattle.vfa_opt.specs.declared.refusals.Refused.TheVariants.{Memory};
+
+use crate::jobs::Job;
+use crate::joined::{Text, joined};
+use crate::laws::{one_list_of_pieces, one_refusal};
+use crate::refusals::Refused;
+use crate::work::{Worked, work};
+use std::alloc::{AllocError, Global};
+use vfa_module::{Item, SplitFault, split};
+
+/// The items of a module's text.
+fn items_of(alloc: Global, bytes: &[u8]) -> Result<Vec<Item>, Refused>
+    requires { length bytes.now ≤ 16777216 }
+    ensures items { IfOk result (λ items. split_of bytes.now ≡ Ok items.items) }
+    ensures places { IfOk result (λ items. AllByRecursion (IsPlaced bytes.now) items.items) }
+    ensures refused { (strict : Bool) → IfErr result (λ e. (e ≡ Memory) ⊎ IsRefusal strict bytes.now e) }
+{
+    match split(alloc, bytes) {
+        Ok(items) => Ok(items),
+        Err(SplitFault::Unclosed(start)) => Err(Refused::Unclosed(start)),
+        Err(SplitFault::BadLine(line)) => Err(Refused::BadLine(line)),
+        Err(SplitFault::Memory) => Err(Refused::Memory),
+    }
+}
+
+/// The works on the items, in order.
+fn works(alloc: Global, job: &Job, bytes: &[u8], items: &[Item]) -> Result<Vec<Worked>, AllocError>
+    requires places { AllByRecursion (IsPlaced bytes.now) items.now }
+    requires limit { length bytes.now ≤ 16777216 }
+    ensures { IfOk result (λ all. AreWorked job.now bytes.now items.now all.items) }
+{
+    let mut all = Vec::new(alloc);
+    'items: for item in items {
+        let worked = work(alloc, job, bytes, item)?;
+        all.push(worked)?;
+    }
+    Ok(all)
+}
+
+/// The text and the notes, or why the module is refused.
+fn worked_out(alloc: Global, job: &Job, strict: bool, bytes: &[u8]) -> Result<Text, Refused>
+    requires { length bytes.now ≤ 2 ^ 24 }
+    ensures text { IfOk result (λ text. IsModuleText job.now strict bytes.now text.out.items text.notes.items) }
+    ensures refined { OnOk result ((pieces : List Piece) × IsModule strict bytes.now pieces × All (IsRefined job.now) pieces) }
+    ensures refused { IfErr result (λ e. (e ≡ Memory) ⊎ IsRefusal strict bytes.now e) }
+{
+    let items = items_of(alloc, bytes)?;
+    let all = works(alloc, job, bytes, &items)?;
+    joined(alloc, strict, all)
+}
+
+/// The job's text of a module and the notes on its functions that stay as they are; or why the module is refused.
+///
+/// `Job::Opt`: each define that is a function of the profile is printed, with its constants folded where it is one block
+/// of bitwise operations. Every other define stays as it is, with a note, and so do all bytes between defines.
+///
+/// A module is refused, in this order, with `Unclosed` or `BadLine` exactly where it does not split, with
+/// `DuplicateFunction` exactly where two functions of the profile have one name, and with `Strict` exactly where `strict`
+/// holds and a function stays as it is, the first one.
+pub fn module_out(alloc: Global, job: &Job, strict: bool, bytes: &[u8]) -> Result<Text, Refused>
+    requires { length bytes.now ≤ 2 ^ 24 }
+    ensures text { IfOk result (λ text. IsModuleText job.now strict bytes.now text.out.items text.notes.items) }
+    ensures refined { OnOk result ((pieces : List Piece) → IsModule strict bytes.now pieces → All (IsRefined job.now) pieces) }
+    ensures refused { IfErr result (λ e. (e ≡ Memory) ⊎ IsRefusal strict bytes.now e) }
+    ensures answers { (pieces : List Piece) → IsModule strict bytes.now pieces → IfErr result (λ e. e ≡ Memory) }
+    ensures refuses { (reason : Refused) → IsRefusal strict bytes.now reason →
+        OnOk result ⊥ × IfErr result (λ e. (e ≡ reason) ⊎ (e ≡ Memory)) }
+{
+    one_list_of_pieces();
+    one_refusal();
+    worked_out(alloc, job, strict, bytes)
+}

@@ -1,0 +1,44 @@
+//! Why a module is refused.
+
+ghost use Rattle.std.specs.Prelude.{◌≡◌};
+ghost use Rattle.vfa_opt.specs.declared.refusals.Refused.TheVariants.{Memory};
+
+use std::alloc::{AllocError, AllocFailed};
+use thiserror::Error;
+use vfa_ir::{Name, Outside};
+
+/// Why a module is refused.
+#[derive(Debug, Drop, Error)]
+pub enum Refused {
+    /// The define at this offset has no end.
+    #[error("a define has no end")]
+    Unclosed(usize),
+    /// On this line something other than white space or a comment follows the brace that closes a define.
+    #[error("something follows a define on its last line")]
+    BadLine(u32),
+    /// Two accepted functions have this name.
+    #[error("a function is defined twice")]
+    DuplicateFunction(Name),
+    /// The function of this name stays as it is, and none is to.
+    #[error("a function is outside the profile")]
+    Strict(Name, Outside),
+    /// Out of memory.
+    #[error("out of memory")]
+    Memory,
+}
+
+impl From<AllocError> for Refused {
+    ghost from_gives = { λ _ e. e ≡ Memory };
+
+    fn from(_e: AllocError) -> Refused {
+        Refused::Memory
+    }
+}
+
+impl<T: Drop> From<AllocFailed<T>> for Refused {
+    ghost from_gives = { λ _ e. e ≡ Memory };
+
+    fn from(_e: AllocFailed<T>) -> Refused {
+        Refused::Memory
+    }
+}
