@@ -1,0 +1,2 @@
+//! The check of functions: types, phis, and names that are defined on every walk to their use.
+#![tactic(auto)]
