@@ -1,0 +1,4 @@
+mod Firsts
+mod TypedItems
+mod ItemLines
+mod Steps

@@ -1,2 +1,4 @@
 //! The check of functions: types, phis, and names that are defined on every walk to their use.
 #![tactic(auto)]
+
+mod types;
