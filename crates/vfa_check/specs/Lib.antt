@@ -1,2 +1,4 @@
 pub mod First
 pub mod Items
+pub mod Predecessors
+pub mod Misfit

@@ -1,4 +1,7 @@
 //! The check of functions: types, phis, and names that are defined on every walk to their use.
 #![tactic(auto)]
 
+mod phis;
+mod predecessors;
+mod tallies;
 mod types;
