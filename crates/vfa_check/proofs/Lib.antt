@@ -6,3 +6,4 @@ mod ItemLines
 mod Sources
 mod Steps
 mod Counting
+mod WithinFit

@@ -2,3 +2,4 @@ pub mod First
 pub mod Items
 pub mod Predecessors
 pub mod Misfit
+pub mod Within
