@@ -2,8 +2,10 @@ mod BlockFits
 mod EdgeCounts
 mod Firsts
 mod TypedItems
+mod HeadMarks
 mod ItemLines
 mod Sources
 mod Steps
 mod Counting
 mod WithinFit
+mod UsesWithin
