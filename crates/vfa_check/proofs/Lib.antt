@@ -1,3 +1,4 @@
+mod Accepted
 mod BlockFits
 mod EdgeCounts
 mod Firsts

@@ -64,14 +64,14 @@ blocks_valued (b ∷ bs) =
     ∙ ap (λ n. length (block_results b) + n) (blocks_valued bs)
     ∙ sym (length-append (block_results b) (flat_map block_results bs))
 
-values_named : (s : Sentence) (tail : List ℕ) → length (function_of s tail).values ≡ length (value_names s)
+pub values_named : (s : Sentence) (tail : List ℕ) → length (function_of s tail).values ≡ length (value_names s)
 values_named s tail =
     length-append (map parameter_value s.parameters) (flat_map block_values s.blocks)
     ∙ ap (λ n. n + length (flat_map block_values s.blocks)) (length-map s.parameters parameter_value ∙ sym (parameters_named 0 s.parameters))
     ∙ ap (λ n. length (parameter_names 0 s.parameters) + n) (blocks_valued s.blocks)
     ∙ sym (length-append (parameter_names 0 s.parameters) (flat_map block_results s.blocks))
 
-blocks_counted : (scope : Scope) (n : ℕ) (bs : List BasicBlock) → length (blocks_of scope n bs) ≡ length bs
+pub blocks_counted : (scope : Scope) (n : ℕ) (bs : List BasicBlock) → length (blocks_of scope n bs) ≡ length bs
 blocks_counted scope n [] = refl
 blocks_counted scope n (b ∷ bs) = ap suc (blocks_counted scope (n + call_count b) bs)
 

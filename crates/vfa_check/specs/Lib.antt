@@ -3,3 +3,4 @@ pub mod Items
 pub mod Predecessors
 pub mod Misfit
 pub mod Within
+pub mod Checked
