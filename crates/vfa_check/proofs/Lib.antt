@@ -1,0 +1,6 @@
+mod Adding
+mod RowBits
+mod ScopesFound
+mod Sending
+mod Stepping
+mod UsesTold
