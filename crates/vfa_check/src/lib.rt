@@ -1,9 +1,22 @@
-//! The check of functions: types, phis, and names that are defined on every walk to their use.
+//! The check of functions: operands are of the types that are written, phis fit the edges, and on every walk names are
+//! defined before they are used.
 #![tactic(auto)]
 
+mod checking;
+mod flow;
 mod head_marks;
 mod laws;
+mod missed_names;
+mod name_rows;
 mod phis;
 mod predecessors;
+mod results;
+mod scopes;
+mod scoping;
+mod search;
+mod steps;
 mod tallies;
 mod types;
+mod uses;
+
+pub use checking::{Checked, check};
