@@ -1,13 +1,13 @@
 -- The first ill-typed item of a block, by its phis, its instructions and its terminator.
-use Rattle.std.proofs.Common.{◌≡◌, ℕ, ◌+◌, List, [], ◌∷◌, ◌++◌, map, length, All, Some, subst, sym, arith, refl, add-zero, ◌∙◌, ap}
+use Rattle.std.proofs.Common.{◌≡◌, ℕ, ◌+◌, List, [], ◌∷◌, ◌++◌, map, length, All, Some, subst, add-zero, ◌∙◌}
 use Rattle.std.proofs.lemmas.List.{length-map}
-use Rattle.std.proofs.lemmas.List.Elements.{All-append, All-map, All-nil}
+use Rattle.std.proofs.lemmas.List.Elements.{All-map, All-nil}
 use Rattle.std.specs.List.{slice_get}
 use Rattle.vfa_ir.specs.declared.functions.Block.{Block}
 use Rattle.vfa_ir.specs.declared.functions.Function.{Function}
 use Rattle.vfa_ir.specs.Typed.{TypedInst, TypedPhi, TypedTerm}
 use Rattle.vfa_check.specs.First.{FailsFirst}
-use Rattle.vfa_check.specs.Items.{Item, phi, instruction, terminator, items_of, TypedItem, IsIllTypedOn}
+use Rattle.vfa_check.specs.Items.{phi, instruction, terminator, items_of, TypedItem, IsIllTypedOn}
 use Rattle.vfa_check.proofs.Firsts.{fails_left, fails_map, fails_right}
 
 pub at_phi : (f : Function) (b : Block) (lines : List ℕ) (place line : ℕ) → slice_get lines place ≡ Some line →

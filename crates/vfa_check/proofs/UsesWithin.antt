@@ -1,7 +1,7 @@
 -- In a function that is well typed and whose phis fit the edges, each use is one of a value of the function, in a block of it.
-use Rattle.std.proofs.Common.{◌≡◌, ◌∙◌, ℕ, zero, suc, ◌+◌, ◌<◌, ◌≤◌, true, cond, eqb, List, [], ◌∷◌, ◌++◌, map, flat_map, length, get_or, All, Option, Some, None, IsSomeAnd, IfSome, refl, sym, ap, subst, arith, add-zero, count_by}
+use Rattle.std.proofs.Common.{◌≡◌, ℕ, suc, ◌+◌, ◌<◌, ◌≤◌, cond, eqb, List, [], ◌∷◌, ◌++◌, flat_map, length, get_or, All, Option, Some, None, IsSomeAnd, refl, subst, arith, add-zero, count_by}
 use Rattle.std.proofs.lemmas.Bool.{eq-eqb}
-use Rattle.std.proofs.lemmas.List.Elements.{All-from_recursion, recursion_from_All}
+use Rattle.std.proofs.lemmas.List.Elements.{recursion_from_All}
 use Rattle.std.proofs.lemmas.List.Sums.{get_or-le-sum_by}
 use Rattle.std.proofs.lemmas.Option.{MatchOption-at_some, get_or_from_slice_get, slice_get_within}
 use Rattle.std.specs.Bool.{⊤}
@@ -21,7 +21,7 @@ use Rattle.vfa_ir.specs.declared.functions.Term.{Term}
 use Rattle.vfa_ir.specs.declared.functions.Value.{Value}
 use Rattle.vfa_ir.specs.Defined.{NameUse, block_uses, inst_uses, line_count, op_names, operand_names, phi_uses, term_names, uses_at, uses_from, uses_of}
 use Rattle.vfa_ir.specs.PhisFit.{PhiFits, PhisFit, edge_count, targets}
-use Rattle.vfa_ir.specs.Typed.{HasType, IsOfType, Typed, TypedBlock, TypedCall, TypedInst, TypedOp, TypedPhi, TypedTerm}
+use Rattle.vfa_ir.specs.Typed.{HasType, IsOfType, Typed, TypedBlock, TypedInst, TypedOp, TypedPhi, TypedTerm}
 use Rattle.vfa_check.specs.Predecessors.{Entries, times_named}
 use Rattle.vfa_check.proofs.EdgeCounts.{both}
 

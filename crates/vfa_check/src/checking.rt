@@ -18,7 +18,7 @@ ghost use Rattle.vfa_ir.specs.declared.functions.Lines.{Lines};
 ghost use Rattle.vfa_ir.specs.declared.operations.BlockId.{BlockId};
 ghost use Rattle.vfa_ir.specs.declared.reasons.Outside.TheVariants.{Memory};
 
-use crate::head_marks::head_marks;
+use crate::head_marks::{head_marks, mark_at};
 use crate::laws::fit_is_within;
 use crate::phis::first_misfit;
 use crate::scopes::Scopes;
@@ -71,10 +71,7 @@ impl Checked {
     pub fn is_head(&self, b: BlockId) -> bool
         ensures { (order : List BlockId) → IsOrder self.now order → result ≡ is_head self.now order b.0 }
     {
-        match self.heads.get(b.0 as usize) {
-            Some(head) => *head,
-            None => false,
-        }
+        mark_at(self.heads.as_slice(), b)
     }
 
     /// Whether a name is defined on every walk to the entry of a block, its phis included. Of a block that no walk reaches

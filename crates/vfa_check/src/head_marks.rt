@@ -26,3 +26,13 @@ pub(crate) fn head_marks(
     }
     Ok(marks)
 }
+
+/// The mark of a block; false past the marks.
+pub(crate) fn mark_at(marks: &[bool], b: BlockId) -> bool
+    ensures { result ≡ slice_index_or marks.now b.0 false }
+{
+    match marks.get(b.0 as usize) {
+        Some(mark) => *mark,
+        None => false,
+    }
+}

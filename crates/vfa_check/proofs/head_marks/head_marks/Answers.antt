@@ -1,4 +1,4 @@
-use Rattle.std.proofs.Common.{◌≡◌, ◌∙◌, ◌+◌, ◌-◌, ◌<◌, ℕ, Bool, ap, arith, drop, false, get_or, length, length-set, set, subst, sym}
+use Rattle.std.proofs.Common.{◌≡◌, ◌∙◌, ◌+◌, ◌-◌, ◌<◌, ℕ, Bool, ap, arith, drop, false, get_or, length, length-set, set}
 use Rattle.std.proofs.lemmas.List.{get_or_default}
 use Rattle.vfa_ir.specs.declared.operations.BlockId.{BlockId}
 use Rattle.vfa_cfg.specs.Heads.{heads_of, is_head}

@@ -2,7 +2,7 @@ use Rattle.std.proofs.Common.{◌≡◌, ◌∙◌, All, refl, subst, sym, true}
 use Rattle.std.proofs.lemmas.List.{take_all}
 use Rattle.vfa_ir.specs.declared.functions.Phi.{Phi}
 use Rattle.vfa_check.specs.Predecessors.{FitsPredecessors}
-use Rattle.vfa_check.proofs.Steps.{all_step}
+use Rattle.vfa_check.proofs.EachStep.{all_step}
 use Rattle.vfa_check.proofs.phis.all_fit.Goals as goal
 
 pub returns-then-not-fits-clause-fit : goal.returns-then-not-fits-clause-fit

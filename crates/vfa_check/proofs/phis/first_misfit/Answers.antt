@@ -2,7 +2,7 @@ use Rattle.std.proofs.Common.{◌≡◌, ◌∙◌, ◌<◌, below_more, length,
 use Rattle.vfa_ir.specs.PhisFit.{PhisFitIn}
 use Rattle.vfa_check.specs.Predecessors.{FitsBlock}
 use Rattle.vfa_check.proofs.BlockFits.{block_from_fits, fits_from_block, row_is, row_within}
-use Rattle.vfa_check.proofs.Steps.{found_at}
+use Rattle.vfa_check.proofs.EachStep.{found_at}
 use Rattle.vfa_check.proofs.phis.first_misfit.Goals as goal
 
 pub fits_block-requires-clause-within : goal.fits_block-requires-clause-within

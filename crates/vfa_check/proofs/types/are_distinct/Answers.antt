@@ -1,4 +1,4 @@
-use Rattle.std.proofs.Common.{◌≡◌, length, map, nat_eq, ℕ, sym, ◌∙◌, ap}
+use Rattle.std.proofs.Common.{◌≡◌, length, map, nat_eq, sym, ◌∙◌, ap}
 use Rattle.std.proofs.lemmas.List.{length-map}
 use Rattle.std.proofs.lemmas.Map.Made.{IsDistinct-from_AllPairs, AllPairs-from_IsDistinct, hash_set_len-Decides}
 use Rattle.std.specs.Cmp.{nat_eq_equiv, unsigned_Decides}

@@ -1,9 +1,9 @@
-use Rattle.std.proofs.Common.{◌≡◌, ◌<◌, ◌∙◌, Some, length, sym, ap}
+use Rattle.std.proofs.Common.{◌<◌, ◌∙◌, Some, length, sym, ap}
 use Rattle.std.proofs.lemmas.Option.{MatchOption-at_none, MatchOption-at_some}
 use Rattle.vfa_ir.specs.Typed.{TypedBlock}
 use Rattle.vfa_check.specs.Items.{IsIllTypedOn}
 use Rattle.vfa_check.proofs.ItemLines.{ill_typed_at, row_long, row_within}
-use Rattle.vfa_check.proofs.Steps.{all_end, all_step, found_at}
+use Rattle.vfa_check.proofs.EachStep.{all_end, all_step, found_at}
 use Rattle.vfa_check.proofs.types.ill_typed_line.Goals as goal
 
 pub ill_typed_item-requires : goal.ill_typed_item-requires
