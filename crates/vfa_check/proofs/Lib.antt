@@ -8,6 +8,7 @@ mod Firsts
 mod HeadMarks
 mod ItemLines
 mod OneOrder
+mod OneRefusal
 mod Refusing
 mod RowBits
 mod ScopesFound
