@@ -7,6 +7,7 @@ ghost use Rattle.vfa_cfg.specs.Ordered.{IsOrdered};
 ghost use Rattle.vfa_cfg.specs.Sizes.{HasFewBlocks};
 ghost use Rattle.vfa_check.specs.Checked.{IsChecked, IsWellFormed, MayBeChecked};
 ghost use Rattle.vfa_check.specs.Items.{HasItsLines};
+ghost use Rattle.vfa_check.specs.Parts.{HasItsParts};
 ghost use Rattle.vfa_check.specs.Refusals.{IsRefusal};
 ghost use Rattle.vfa_check.specs.Scopes.{AreScopes};
 ghost use Rattle.vfa_check.specs.Within.{IsWithin};
@@ -29,16 +30,23 @@ use std::marker::Model;
 use vfa_cfg::order;
 use vfa_ir::{BlockId, Function, Lines, Outside, ValueId, shown_block, shown_value};
 
-/// A function that was checked. Contracts see the function.
+/// What is known of a function that was checked.
 #[derive(Drop)]
-pub struct Checked {
-    function: Function,
+pub struct Parts {
     order: Vec<BlockId>,
     heads: Vec<bool>,
     scopes: Scopes,
 }
 
+/// A function that was checked. Contracts see the function.
+#[derive(Drop)]
+pub struct Checked {
+    function: Function,
+    parts: Parts,
+}
+
 impl Model for Checked {
+    ghost use Rattle.vfa_check.specs.Checked.{IsChecked};
     ghost use Rattle.vfa_check.specs.Parts.{HasItsParts};
     ghost use Rattle.vfa_ir.specs.declared.functions.Function.{Function};
 
@@ -46,7 +54,7 @@ impl Model for Checked {
 
     ghost view = { λ c. c.function };
 
-    ghost invariant = { λ c. HasItsParts c.function c.order.items c.heads.items c.scopes };
+    ghost invariant = { λ c. IsChecked c.function × HasItsParts c.function c.parts };
 }
 
 impl Checked {
@@ -63,7 +71,7 @@ impl Checked {
         ensures order { IsOrder self.now result.now }
         ensures ordered { IsOrdered self.now result.now }
     {
-        self.order.as_slice()
+        self.parts.order.as_slice()
     }
 
     /// Whether a block is a head: an edge comes to it from a block at its own place or later in the order. A block outside
@@ -71,7 +79,7 @@ impl Checked {
     pub fn is_head(&self, b: BlockId) -> bool
         ensures { (order : List BlockId) → IsOrder self.now order → result ≡ is_head self.now order b.0 }
     {
-        mark_at(self.heads.as_slice(), b)
+        mark_at(self.parts.heads.as_slice(), b)
     }
 
     /// Whether a name is defined on every walk to the entry of a block, its phis included. Of a block that no walk reaches
@@ -82,7 +90,7 @@ impl Checked {
     pub fn defined(&self, b: BlockId, v: ValueId) -> bool
         ensures { MatchBool result (IsDefinedAt self.now b.0 0 v.0) (IsMissedAt self.now b.0 0 v.0) }
     {
-        self.scopes.defined(b, v)
+        self.parts.scopes.defined(b, v)
     }
 }
 
@@ -132,6 +140,27 @@ fn check_names(alloc: Global, f: &Function, order: &[BlockId]) -> Result<Scopes,
     }
 }
 
+/// Checks a function, as `check` does.
+fn parts_of(alloc: Global, f: &Function, lines: &Lines) -> Result<Parts, Outside>
+    requires lines { HasItsLines f.now lines.now }
+    requires within { IsWithin f.now }
+    requires few { HasFewBlocks f.now }
+    ensures parts { IfOk result (HasItsParts f.now) }
+    ensures formed { IfOk result (λ _. IsWellFormed f.now) }
+    ensures refused { IfErr result (λ e. (e ≡ Memory) ⊎ IsRefusal f.now lines.now e) }
+{
+    check_types(alloc, f, lines)?;
+    check_phis(alloc, f)?;
+    let order = order(alloc, f)?;
+    let scopes = check_names(alloc, f, order.as_slice())?;
+    let heads = head_marks(alloc, f, order.as_slice())?;
+    Ok(Parts {
+        order,
+        heads,
+        scopes,
+    })
+}
+
 /// Checks a function whose phis, instructions and terminators stand on these lines: that operands are of the types that
 /// are written, that phis fit the edges, and that on every walk names are defined before they are used. It is refused,
 /// in this order, for the first phi, instruction or terminator that is ill-typed, by its line; for the first block whose
@@ -146,16 +175,7 @@ pub fn check(alloc: Global, f: Function, lines: &Lines) -> Result<Checked, Outsi
     ensures formed { IfOk result IsWellFormed }
     ensures refused { IfErr result (λ e. (e ≡ Memory) ⊎ IsRefusal f lines.now e) }
 {
-    check_types(alloc, &f, lines)?;
-    check_phis(alloc, &f)?;
     fit_is_within();
-    let order = order(alloc, &f)?;
-    let scopes = check_names(alloc, &f, order.as_slice())?;
-    let heads = head_marks(alloc, &f, order.as_slice())?;
-    Ok(Checked {
-        function: f,
-        order,
-        heads,
-        scopes,
-    })
+    let parts = parts_of(alloc, &f, lines)?;
+    Ok(Checked { function: f, parts })
 }

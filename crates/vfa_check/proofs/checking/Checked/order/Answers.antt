@@ -6,4 +6,4 @@ use Rattle.vfa_check.proofs.checking.Checked.order.Goals as goal
 pub returns-clause-ordered : goal.returns-clause-ordered
 returns-clause-ordered c =
     subst (IsOrdered c.args.self.now) (sym c.as_slice.ensures.value)
-    (subst (λ f. IsOrdered f c.self.inside.order.items) c.self.view_is (is_ordered c.self.inside.function c.self.inside.order.items c.self.invariant.is_order))
+    (subst (λ f. IsOrdered f c.self.inside.parts.order.items) c.self.view_is (is_ordered c.self.inside.function c.self.inside.parts.order.items c.self.invariant.1.is_order))

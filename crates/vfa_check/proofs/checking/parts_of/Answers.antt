@@ -1,6 +1,6 @@
 use Rattle.std.proofs.Common.{inl, inr}
 use Rattle.std.proofs.lemmas.Result.{err_from_is_err_and}
-use Rattle.vfa_check.proofs.checking.check.Goals as goal
+use Rattle.vfa_check.proofs.checking.parts_of.Goals as goal
 
 pub returns-in_err-check_phis-clause-refused : goal.returns-in_err-check_phis-clause-refused
 returns-in_err-check_phis-clause-refused c =
