@@ -5,11 +5,11 @@
 mod flow;
 mod missed_names;
 mod name_rows;
+mod narrowing;
 mod results;
 mod scopes;
 mod scoping;
 mod search;
-mod steps;
 mod uses;
 
 pub use scopes::Scopes;
