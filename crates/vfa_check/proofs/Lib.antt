@@ -3,4 +3,5 @@ mod RowBits
 mod ScopesFound
 mod Sending
 mod Stepping
+mod TestedWithin
 mod UsesTold

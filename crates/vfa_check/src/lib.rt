@@ -10,6 +10,8 @@ mod results;
 mod scopes;
 mod scoping;
 mod search;
+#[cfg(test)]
+mod tests;
 mod uses;
 
 pub use scopes::Scopes;
