@@ -17,8 +17,8 @@ use Rattle.vfa_cfg.proofs.Members.{false_is_no_truth, or_cases, or_left, or_righ
 use Rattle.vfa_check.specs.declared.flow.Flow.{Flow}
 use Rattle.vfa_check.specs.declared.name_rows.NameRow.{NameRow}
 use Rattle.vfa_check.specs.declared.scopes.Scopes.{Scopes}
-use Rattle.vfa_check.specs.Flow.{has_at, phi_results, IsFlow, IsSettled, is_sent}
-use Rattle.vfa_check.specs.NameRows.{IsRow, has_name}
+use Rattle.vfa_check.specs.Flow.{phi_results, IsFlow, IsSettled, is_sent}
+use Rattle.vfa_check.specs.NameRows.{IsRow, has_name, has_at}
 use Rattle.vfa_check.specs.Scopes.{AreScopes}
 use Rattle.vfa_check.specs.Within.{IsWithin}
 use Rattle.vfa_check.proofs.Stepping.{has_set_same, has_set_other, has_read}

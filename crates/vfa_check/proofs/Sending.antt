@@ -15,8 +15,9 @@ use Rattle.vfa_cfg.proofs.Marks.{none_is_past}
 use Rattle.vfa_cfg.proofs.Members.{bool_cases, false_is_no_truth, and_left, and_right, not_true, in_cases, in_from_place, first_or_rest}
 use Rattle.vfa_ir.specs.Printable.{ids_of, block_ids}
 use Rattle.vfa_check.proofs.Adding.{all_left, all_right}
+use Rattle.vfa_check.specs.NameRows.{has_at}
 use Rattle.vfa_check.specs.declared.flow.Flow.{Flow}
-use Rattle.vfa_check.specs.Flow.{has_at, is_sent, sent_edges, weight, IsFlow, IsMissedBefore, IsMissedBehind, IsNarrowed, IsRenewed, IsSettled}
+use Rattle.vfa_check.specs.Flow.{is_sent, sent_edges, weight, IsFlow, IsMissedBefore, IsMissedBehind, IsNarrowed, IsRenewed, IsSettled}
 
 pub not_not : (b : Bool) → b ≡ false → not b ≡ true
 not_not true e = absurd (cc)

@@ -13,8 +13,8 @@ use Rattle.vfa_ir.specs.Walks.{is_in, results_in}
 use Rattle.vfa_cfg.proofs.Members.{bool_cases}
 use Rattle.vfa_check.specs.declared.flow.Flow.{Flow}
 use Rattle.vfa_check.specs.declared.name_rows.NameRow.{NameRow}
-use Rattle.vfa_check.specs.NameRows.{IsRow, has_name, is_one}
-use Rattle.vfa_check.specs.Flow.{has_at, row_weight, weight, IsShaped, IsNarrowed, IsRenewed}
+use Rattle.vfa_check.specs.NameRows.{IsRow, has_name, is_one, has_at}
+use Rattle.vfa_check.specs.Flow.{row_weight, weight, IsShaped, IsNarrowed, IsRenewed}
 
 slice_set_same : {X : Type 0} (xs : List X) (i : ℕ) (x : X) → i < length xs → slice_get (set xs i x) i ≡ Some x
 slice_set_same [] i x h = absurd (omega arith)

@@ -7,11 +7,7 @@ use Rattle.vfa_ir.specs.declared.operations.BlockId.{BlockId}
 use Rattle.vfa_cfg.specs.Order.{numbers}
 use Rattle.vfa_check.specs.declared.flow.Flow.{Flow}
 use Rattle.vfa_check.specs.declared.name_rows.NameRow.{NameRow}
-use Rattle.vfa_check.specs.NameRows.{IsRow, has_name}
-
--- whether the row of a block has a name; where there is no row, it counts as one that has all
-abbrev pub has_at : List NameRow → ℕ → ℕ → Bool
-has_at rows b v = elim (slice_get rows b) [ None ↦ true | Some row ↦ has_name row v ]
+use Rattle.vfa_check.specs.NameRows.{IsRow, has_at}
 
 -- how much the rows can still lose
 abbrev pub row_weight : NameRow → ℕ

@@ -3,7 +3,7 @@
 --
 -- Of three names, the bits 0 and 2 are the set of the names 0 and 2; the bits 0 and 3 are that of 0 and each number from
 -- 3 on.
-use Rattle.std.specs.Prelude.{◌≡◌, ◌+◌, ◌/◌, ◌%◌, ℕ, Bool, nat_eq, min, List, length, get_or}
+use Rattle.std.specs.Prelude.{◌≡◌, ◌+◌, ◌/◌, ◌%◌, ℕ, Bool, true, nat_eq, min, List, length, get_or, slice_get, Some, None}
 use Rattle.std.specs.Int.{bit_at}
 use Rattle.vfa_check.specs.declared.name_rows.NameRow.{NameRow}
 
@@ -18,3 +18,7 @@ has_name row v = is_one row.words.items (min v row.names)
 pub record IsRow (count : ℕ) (row : NameRow) : Type 0 where
   pub names : row.names ≡ count
   pub words : length row.words.items ≡ count / 64 + 1
+
+-- whether the row of a block has a name; where there is no row, it counts as one that has all
+abbrev pub has_at : List NameRow → ℕ → ℕ → Bool
+has_at rows b v = elim (slice_get rows b) [ None ↦ true | Some row ↦ has_name row v ]

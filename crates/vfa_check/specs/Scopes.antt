@@ -8,8 +8,7 @@ use Rattle.vfa_ir.specs.declared.functions.Function.{Function}
 use Rattle.vfa_ir.specs.Defined.{line_count}
 use Rattle.vfa_ir.specs.Walks.{IsDefinedAt, IsMissedAt}
 use Rattle.vfa_check.specs.declared.scopes.Scopes.{Scopes}
-use Rattle.vfa_check.specs.Flow.{has_at}
-use Rattle.vfa_check.specs.NameRows.{IsRow}
+use Rattle.vfa_check.specs.NameRows.{IsRow, has_at}
 
 -- whether a name is in scope at the entry of a block, its phis included; at its end
 abbrev pub is_defined : Scopes → ℕ → ℕ → Bool

@@ -141,7 +141,7 @@ fn check_names(alloc: Global, f: &Function, order: &[BlockId]) -> Result<Scopes,
 }
 
 /// Checks a function, as `check` does.
-fn parts_of(alloc: Global, f: &Function, lines: &Lines) -> Result<Parts, Outside>
+pub(crate) fn parts_of(alloc: Global, f: &Function, lines: &Lines) -> Result<Parts, Outside>
     requires lines { HasItsLines f.now lines.now }
     requires within { IsWithin f.now }
     requires few { HasFewBlocks f.now }

@@ -8,14 +8,16 @@ mod head_marks;
 mod laws;
 mod missed_names;
 mod name_rows;
+mod narrowing;
 mod phis;
 mod predecessors;
 mod results;
 mod scopes;
 mod scoping;
 mod search;
-mod steps;
 mod tallies;
+#[cfg(test)]
+mod tests;
 mod types;
 mod uses;
 

@@ -3,8 +3,8 @@
 ghost use Rattle.std.specs.Prelude.{◌≡◌, ◌<◌, ◌||◌, ℕ, length, IfOk, All, map, true};
 ghost use Rattle.vfa_cfg.specs.Order.{IsOrder};
 ghost use Rattle.vfa_cfg.specs.Sizes.{HasFewBlocks};
-ghost use Rattle.vfa_check.specs.Flow.{IsFlow, IsSettled, has_at, phi_results};
-ghost use Rattle.vfa_check.specs.NameRows.{IsRow, has_name};
+ghost use Rattle.vfa_check.specs.Flow.{IsFlow, IsSettled, phi_results};
+ghost use Rattle.vfa_check.specs.NameRows.{IsRow, has_name, has_at};
 ghost use Rattle.vfa_check.specs.Scopes.{AreScopes};
 ghost use Rattle.vfa_check.specs.Within.{IsWithin};
 ghost use Rattle.vfa_ir.specs.Walks.{is_in, is_parameter, successors};

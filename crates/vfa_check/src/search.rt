@@ -8,7 +8,7 @@ ghost use Rattle.vfa_check.specs.Within.{IsWithin};
 ghost use Rattle.vfa_ir.specs.Walks.{successors};
 
 use crate::flow::Flow;
-use crate::steps::{narrow, renew};
+use crate::narrowing::{narrow, renew};
 use vfa_cfg::successor;
 use vfa_ir::{BlockId, Function};
 

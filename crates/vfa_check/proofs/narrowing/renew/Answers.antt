@@ -1,6 +1,6 @@
 use Rattle.std.proofs.Common.{◌≡◌, get_or, refl, ap, ◌∙◌}
 use Rattle.vfa_check.proofs.Stepping.{renewed}
-use Rattle.vfa_check.proofs.steps.renew.Goals as goal
+use Rattle.vfa_check.proofs.narrowing.renew.Goals as goal
 
 pub returns : goal.returns
 returns c =

@@ -1,7 +1,7 @@
 use Rattle.std.proofs.Common.{refl}
 use Rattle.vfa_cfg.proofs.Members.{false_is_no_truth}
 use Rattle.vfa_check.proofs.Stepping.{narrowed}
-use Rattle.vfa_check.proofs.steps.narrow.Goals as goal
+use Rattle.vfa_check.proofs.narrowing.narrow.Goals as goal
 
 pub returns-then-lost : goal.returns-then-lost
 returns-then-lost c =
