@@ -15,6 +15,7 @@ mod ScopesFound
 mod Sending
 mod Sources
 mod Stepping
+mod TestedLines
 mod TestedWithin
 mod TypedItems
 mod UsesTold

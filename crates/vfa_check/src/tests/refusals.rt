@@ -33,7 +33,7 @@ fn lines_for(alloc: Global, f: &Function) -> Result<Lines, AllocError>
 {
     let mut of: Vec<Items<u32>> = Vec::new(alloc);
     let mut first: u32 = 0;
-    'blocks: for block in f.blocks.as_slice() {
+    'each: for block in f.blocks.as_slice() {
         let count = block.phis.as_slice().len() + block.insts.as_slice().len() + 1;
         of.push(row(alloc, first, count)?)?;
         first = first.wrapping_add(100);
