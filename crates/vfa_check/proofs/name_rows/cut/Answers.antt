@@ -1,5 +1,5 @@
 use Rattle.std.proofs.Common.{refl, arith}
-use Rattle.vfa_check.proofs.RowBits.{cut_more, all_cut}
+use Rattle.vfa_check.proofs.RowBits.{cut_more}
 use Rattle.vfa_check.proofs.name_rows.cut.Goals as goal
 
 pub bits-preserved : goal.bits-preserved
