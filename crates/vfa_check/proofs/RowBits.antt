@@ -114,29 +114,23 @@ none_cut old other = record {
   no_more = omega arith;
 }
 
-pub all_cut : (old other now : List ℕ) (lost : Bool) → length other ≡ length old → AreCut old other now (length old) lost → (place : ℕ) →
-    is_one now place ≡ (is_one old place && is_one other place)
-all_cut old other now lost same c place =
-    let words : get_or now (place / 64) 0 ≡ bit_and (get_or old (place / 64) 0) (get_or other (place / 64) 0) =
-    elim (leb_tells (length old) (place / 64)) [
-      | inl h ↦
-          get_or_past now (place / 64) 0 (omega (arith, h.1, c.whole))
-          ∙ sym (ap₂ bit_and (get_or_past old (place / 64) 0 h.1) (get_or_past other (place / 64) 0 (omega (arith, h.1, same))))
-      | inr h ↦ c.cut (place / 64) h.1
-    ] in
-    ap (λ x. nat_eq (bit_at x (place % 64)) 1) words
-    ∙ ap (λ x. nat_eq x 1) (bit_at_and (get_or old (place / 64) 0) (get_or other (place / 64) 0) (place % 64))
-    ∙ ones_of_both _ _ (bit_at-lt (get_or old (place / 64) 0) (place % 64)) (bit_at-lt (get_or other (place / 64) 0) (place % 64))
+pub all_cut : (old other now : List ℕ) (k : ℕ) (lost : Bool) → length other ≡ length old → length old ≤ k → AreCut old other now k lost → (i : ℕ) →
+    get_or now i 0 ≡ bit_and (get_or old i 0) (get_or other i 0)
+all_cut old other now k lost same end c i = elim (leb_tells (length old) i) [
+  | inl h ↦
+      get_or_past now i 0 (omega (arith, h.1, c.whole))
+      ∙ sym (ap₂ bit_and (get_or_past old i 0 h.1) (get_or_past other i 0 (omega (arith, h.1, same))))
+  | inr h ↦ c.cut i (omega (arith, h.1))
+]
 
-pub cut_more : (old other now : List ℕ) (k word by : ℕ) (lost : Bool) → k < length now → length other ≡ length old → word ≡ get_or now k word →
-    by ≡ get_or other k by → AreCut old other now k lost →
+pub cut_more : (old other now : List ℕ) (k word by : ℕ) (lost : Bool) → k < length now → length other ≡ length old → word ≡ get_or now k 0 →
+    by ≡ get_or other k 0 → AreCut old other now k lost →
     AreCut old other (set now k (bit_and word by)) (k + 1) (lost || not (nat_eq (bit_and word by) word))
 cut_more old other now k word by lost within same is_word is_by c =
     let new = set now k (bit_and word by) in
-    let read : word ≡ get_or now k 0 = is_word ∙ get_or_default now k word 0 within in
+    let read : word ≡ get_or now k 0 = is_word in
     let was : get_or old k 0 ≡ word = sym (c.rest k (omega arith)) ∙ sym read in
-    let other_within : k < length other = omega (arith, c.whole, same) in
-    let is : get_or other k 0 ≡ by = sym (is_by ∙ get_or_default other k by 0 other_within) in
+    let is : get_or other k 0 ≡ by = sym is_by in
     let here : get_or new k 0 ≡ bit_and word by = get_or-set_same now k (bit_and word by) 0 within in
     let total = sum_by-set (λ x. x) now k (bit_and word by) 0 within in
     let less = and_le_l word by in
@@ -163,14 +157,15 @@ cut_more old other now k word by lost within same is_word is_by c =
       no_more = omega (arith, total, less, read, c.no_more);
     }
 
-pub cut_rows : (old other now : NameRow) (k : ℕ) (lost : Bool) → other.names ≡ old.names → now.names ≡ old.names →
-    length other.words.items ≡ length old.words.items → k ≡ length old.words.items →
-    AreCut old.words.items other.words.items now.words.items k lost → (v : ℕ) →
+pub cut_rows : (old other now : NameRow) → other.names ≡ old.names → now.names ≡ old.names →
+    ((i : ℕ) → get_or now.words.items i 0 ≡ bit_and (get_or old.words.items i 0) (get_or other.words.items i 0)) → (v : ℕ) →
     has_name now v ≡ (has_name old v && has_name other v)
-cut_rows old other now k lost names_other names_now whole e c v =
+cut_rows old other now names_other names_now words v =
     let place : ℕ = min v old.names in
-    let all = all_cut old.words.items other.words.items now.words.items lost whole
-    (subst (λ n. AreCut old.words.items other.words.items now.words.items n lost) e c) place in
+    let a : ℕ = get_or old.words.items (place / 64) 0 in
+    let b : ℕ = get_or other.words.items (place / 64) 0 in
     ap (λ n. is_one now.words.items (min v n)) names_now
-    ∙ all
+    ∙ ap (λ x. nat_eq (bit_at x (place % 64)) 1) (words (place / 64))
+    ∙ ap (λ x. nat_eq x 1) (bit_at_and a b (place % 64))
+    ∙ ones_of_both _ _ (bit_at-lt a (place % 64)) (bit_at-lt b (place % 64))
     ∙ ap (λ n. is_one old.words.items place && is_one other.words.items (min v n)) (sym names_other)

@@ -1,5 +1,5 @@
 -- From each block to what each function that some text reads as keeps.
-use Rattle.std.proofs.Common.{◌≡◌, ℕ, zero, suc, ◌+◌, ◌<◌, ◌≤◌, true, List, [], ◌∷◌, ◌++◌, length, take, map, flat_map, get_or, All, refl, sym, ap, ◌∙◌, subst, inl, inr, Option, Some, None}
+use Rattle.std.proofs.Common.{◌≡◌, ℕ, ◌+◌, ◌<◌, ◌≤◌, true, List, [], ◌∷◌, length, take, map, flat_map, get_or, All, refl, sym, ap, ◌∙◌, subst, inl, inr, Option, Some, None}
 use Rattle.std.specs.List.{slice_get}
 use Rattle.std.proofs.lemmas.List.Concat.{flat_map-cons}
 use Rattle.std.proofs.lemmas.List.Elements.{All-nil, All-cons, All-map, All-more, All-head, All-tail, All-append, All-get_or}
@@ -13,7 +13,7 @@ use Rattle.vfa_ir.specs.declared.functions.Phi.{Phi}
 use Rattle.vfa_ir.specs.declared.functions.Value.{Value}
 use Rattle.vfa_ir.specs.declared.operations.BlockId.{BlockId}
 use Rattle.vfa_ir.specs.PhisFit.{targets}
-use Rattle.vfa_ir.specs.Printable.{block_ids, ids_of, inst_ids}
+use Rattle.vfa_ir.specs.Printable.{block_ids, inst_ids}
 use Rattle.vfa_ir.specs.Walks.{is_in, successors, IsEdge}
 use Rattle.vfa_cfg.proofs.Members.{first_or_rest}
 use Rattle.vfa_check.specs.Within.{IsWithin}

@@ -1,6 +1,6 @@
 //! Sets of names as rows of bits.
 
-ghost use Rattle.std.specs.Prelude.{◌≡◌, ◌<◌, ◌≤◌, ◌+◌, ◌/◌, ◌^◌, ◌&&◌, ◌||◌, ℕ, nat_eq, true, false, IfOk, IsTrue, length, sum};
+ghost use Rattle.std.specs.Prelude.{◌≡◌, ◌<◌, ◌≤◌, ◌+◌, ◌/◌, ◌^◌, ◌&&◌, ◌||◌, ℕ, nat_eq, true, false, IfOk, IsTrue, bit_and, length, slice_index, sum};
 ghost use Rattle.vfa_check.specs.NameRows.{IsRow, has_name};
 
 use std::alloc::{AllocError, Global};
@@ -14,6 +14,23 @@ const WORD_BITS: usize = 64;
 pub struct NameRow {
     names: usize,
     words: Vec<u64>,
+}
+
+/// Takes from words the bits that others do not have. Whether a bit was taken.
+fn cut(words: &mut [u64], others: &[u64]) -> bool
+    requires { length others.now ≡ length words.old }
+    ensures both { (k : ℕ) → slice_index words.new k ≡ bit_and (slice_index words.old k) (slice_index others.now k) }
+    ensures kept { result ≡ false → words.new ≡ words.old }
+    ensures lost { result ≡ true → sum words.new < sum words.old }
+{
+    let mut lost = false;
+    'bits: for k in 0..words.len() {
+        let word = words[k];
+        let kept = word & others[k];
+        words[k] = kept;
+        lost |= kept != word;
+    }
+    lost
 }
 
 impl NameRow {
@@ -81,14 +98,7 @@ impl NameRow {
         ensures kept { result ≡ false → self.new.words.items ≡ self.old.words.items }
         ensures lost { result ≡ true → sum self.new.words.items < sum self.old.words.items }
     {
-        let mut lost = false;
-        'words: for k in 0..self.words.len() {
-            let word = self.words[k];
-            let kept = word & other.words[k];
-            self.words[k] = kept;
-            lost |= kept != word;
-        }
-        lost
+        cut(self.words.as_mut_slice(), other.words.as_slice())
     }
 
     /// Becomes the same set as the other.

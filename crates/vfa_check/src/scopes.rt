@@ -35,7 +35,11 @@ impl Scopes {
         }
     }
 
-    /// Whether a name is defined on every walk to the terminator of a block.
+    /// Whether a name is defined on every walk to the terminator of a block. Of a block that no walk reaches this holds of
+    /// each name.
+    ///
+    /// In `entry: br i1 %c, label %a, label %b`, `a: %x = add i8 %p, 1`, `br label %b`, the name `%x` is defined at the end
+    /// of a.
     pub fn defined_behind(&self, b: BlockId, v: ValueId) -> bool
         ensures value { result ≡ is_defined_behind self.now b.0 v.0 }
         ensures scope { (f : Function) → AreScopes f self.now →

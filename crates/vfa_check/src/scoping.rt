@@ -72,7 +72,11 @@ fn add_all_phis(rows: &mut Vec<NameRow>, f: &Function)
 }
 
 impl Scopes {
-    /// The names in scope in a function with this order.
+    /// The names in scope in a function, whose order this is: from all names down, each block takes away at the entries
+    /// of its successors what its end does not have, until none loses a name.
+    ///
+    /// In `entry: br label %a`, `a: %x = add i8 %p, 1`, `br i1 %c, label %a, label %b`, `b: ret i8 %x`, the name `%x` is in
+    /// scope at the end of a and at the entry of b, and not at the entry of a, since the first walk there misses it.
     pub fn of(alloc: Global, f: &Function, order: &[BlockId]) -> Result<Scopes, AllocError>
         requires order { IsOrder f.now order.now }
         requires within { IsWithin f.now }

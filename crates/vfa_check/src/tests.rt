@@ -159,6 +159,9 @@ fn a_name_of_the_round_before_is_missed_in_the_first(rt: HostRuntime) {
     let f = loops(alloc, 1).expect(&rt, "memory");
     assert!(rt; is_within(&f));
     assert!(rt; missed(alloc, &f).expect(&rt, "memory") == use_at(1, 1));
+    let f = loops(alloc, 2).expect(&rt, "memory");
+    assert!(rt; is_within(&f));
+    assert!(rt; missed(alloc, &f).expect(&rt, "memory") == use_at(2, 1));
     let f = loops(alloc, 0).expect(&rt, "memory");
     assert!(rt; is_within(&f));
     assert!(rt; missed(alloc, &f).expect(&rt, "memory") == None);
