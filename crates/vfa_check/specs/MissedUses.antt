@@ -1,3 +1,4 @@
+-- helper: in no public contract
 -- The first use of a name that is not defined on every walk to it (LLVM Language Reference, "Well-Formedness"). The
 -- operand of a phi is used at the end of its predecessor, and that is the block of its use.
 --

@@ -1,4 +1,3 @@
--- helper: in no public contract
 -- What a checked function carries: its order, the marks of its heads, and its names in scope.
 use Rattle.std.specs.Prelude.{◌≡◌, ℕ, false, slice_index_or}
 use Rattle.vfa_ir.specs.declared.functions.Function.{Function}

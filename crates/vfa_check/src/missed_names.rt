@@ -10,7 +10,7 @@ use crate::name_rows::NameRow;
 use vfa_ir::{CallArg, Function, Op, Operand, Term, ValueId};
 
 /// The name that the operand is, if the set does not have it.
-pub fn missed_in(here: &NameRow, a: Operand) -> Option<ValueId>
+pub(crate) fn missed_in(here: &NameRow, a: Operand) -> Option<ValueId>
     ensures { option_map (λ v. v.0) result ≡ first_missed here.now (operand_names a) }
 {
     let Operand::Value(v) = a else {
@@ -61,7 +61,7 @@ fn missed_in_call(here: &NameRow, f: &Function, call: u32) -> Option<ValueId>
 }
 
 /// The first name that the operation uses and the set does not have.
-pub fn missed_in_op(here: &NameRow, f: &Function, op: &Op) -> Option<ValueId>
+pub(crate) fn missed_in_op(here: &NameRow, f: &Function, op: &Op) -> Option<ValueId>
     ensures { option_map (λ v. v.0) result ≡ first_missed here.now (op_names f.now op.now) }
 {
     match *op {
@@ -80,7 +80,7 @@ pub fn missed_in_op(here: &NameRow, f: &Function, op: &Op) -> Option<ValueId>
 }
 
 /// The first name that the terminator uses and the set does not have.
-pub fn missed_in_term(here: &NameRow, term: &Term) -> Option<ValueId>
+pub(crate) fn missed_in_term(here: &NameRow, term: &Term) -> Option<ValueId>
     ensures { option_map (λ v. v.0) result ≡ first_missed here.now (term_names term.now) }
 {
     match term {

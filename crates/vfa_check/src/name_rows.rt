@@ -35,7 +35,7 @@ fn cut(words: &mut [u64], others: &[u64]) -> bool
 
 impl NameRow {
     /// The set of all numbers.
-    pub fn full(alloc: Global, names: usize) -> Result<NameRow, AllocError>
+    pub(crate) fn full(alloc: Global, names: usize) -> Result<NameRow, AllocError>
         ensures row { IfOk result (IsRow names) }
         ensures all { IfOk result (λ row. (v : ℕ) → has_name row v ≡ true) }
     {
@@ -46,7 +46,7 @@ impl NameRow {
     }
 
     /// The set of no number.
-    pub fn empty(alloc: Global, names: usize) -> Result<NameRow, AllocError>
+    pub(crate) fn empty(alloc: Global, names: usize) -> Result<NameRow, AllocError>
         ensures row { IfOk result (IsRow names) }
         ensures none { IfOk result (λ row. (v : ℕ) → has_name row v ≡ false) }
     {
@@ -57,7 +57,7 @@ impl NameRow {
     }
 
     /// The same set in memory of its own.
-    pub fn copy(&self) -> Result<NameRow, AllocError>
+    pub(crate) fn copy(&self) -> Result<NameRow, AllocError>
         ensures row { IfOk result (λ row. (count : ℕ) → IsRow count self.now → IsRow count row) }
         ensures same { IfOk result (λ row. (v : ℕ) → has_name row v ≡ has_name self.now v) }
     {
@@ -68,7 +68,7 @@ impl NameRow {
     }
 
     /// Whether the set has a name.
-    pub fn has(&self, v: ValueId) -> bool
+    pub(crate) fn has(&self, v: ValueId) -> bool
         ensures { result ≡ has_name self.now v.0 }
     {
         let place = (v.0 as usize).min(self.names);
@@ -79,7 +79,7 @@ impl NameRow {
     }
 
     /// Adds a name.
-    pub fn add(&mut self, v: ValueId)
+    pub(crate) fn add(&mut self, v: ValueId)
         requires row { IsRow self.old.names self.old }
         requires name { v.0 < self.old.names }
         ensures row { (count : ℕ) → IsRow count self.old → IsRow count self.new }
@@ -90,7 +90,7 @@ impl NameRow {
     }
 
     /// Takes away what the other set does not have. Whether the set has lost anything.
-    pub fn intersect(&mut self, other: &NameRow) -> bool
+    pub(crate) fn intersect(&mut self, other: &NameRow) -> bool
         requires names { other.now.names ≡ self.old.names }
         requires words { length other.now.words.items ≡ length self.old.words.items }
         ensures row { (count : ℕ) → IsRow count self.old → IsRow count self.new }
@@ -102,7 +102,7 @@ impl NameRow {
     }
 
     /// Becomes the same set as the other.
-    pub fn copy_from(&mut self, other: &NameRow)
+    pub(crate) fn copy_from(&mut self, other: &NameRow)
         requires { length other.now.words.items ≡ length self.old.words.items }
         ensures row { (count : ℕ) → IsRow count other.now → IsRow count self.new }
         ensures same { (v : ℕ) → has_name self.new v ≡ has_name other.now v }

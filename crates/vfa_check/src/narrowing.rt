@@ -10,7 +10,7 @@ use crate::results::add_results;
 use vfa_ir::{BlockId, Function};
 
 /// Takes from the entry of a block what the end of a predecessor does not have. Whether the entry has lost anything.
-pub fn narrow(flow: &mut Flow, f: &Function, from: BlockId, to: BlockId) -> bool
+pub(crate) fn narrow(flow: &mut Flow, f: &Function, from: BlockId, to: BlockId) -> bool
     requires shape { IsShaped f.now flow.old }
     requires from { from.0 < length f.now.blocks }
     requires to { to.0 < length f.now.blocks }
@@ -24,7 +24,7 @@ pub fn narrow(flow: &mut Flow, f: &Function, from: BlockId, to: BlockId) -> bool
 }
 
 /// Makes the end of a block from its entry and its results.
-pub fn renew(flow: &mut Flow, f: &Function, b: BlockId)
+pub(crate) fn renew(flow: &mut Flow, f: &Function, b: BlockId)
     requires shape { IsShaped f.now flow.old }
     requires block { b.0 < length f.now.blocks }
     requires names { All (λ block. All (λ v. v < length f.now.values) (block_ids block)) f.now.blocks }

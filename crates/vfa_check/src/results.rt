@@ -9,7 +9,7 @@ use crate::name_rows::NameRow;
 use vfa_ir::{Block, Inst, Param, Phi};
 
 /// Adds the parameters.
-pub fn add_parameters(row: &mut NameRow, params: &[Param])
+pub(crate) fn add_parameters(row: &mut NameRow, params: &[Param])
     requires row { IsRow row.old.names row.old }
     requires names { All (λ v. v < row.old.names) (map (λ p. p.value.0) params.now) }
     ensures row { (count : ℕ) → IsRow count row.old → IsRow count row.new }
@@ -21,7 +21,7 @@ pub fn add_parameters(row: &mut NameRow, params: &[Param])
 }
 
 /// Adds the results of phis.
-pub fn add_phis(row: &mut NameRow, phis: &[Phi])
+pub(crate) fn add_phis(row: &mut NameRow, phis: &[Phi])
     requires row { IsRow row.old.names row.old }
     requires names { All (λ v. v < row.old.names) (map (λ p. p.result.0) phis.now) }
     ensures row { (count : ℕ) → IsRow count row.old → IsRow count row.new }
@@ -33,7 +33,7 @@ pub fn add_phis(row: &mut NameRow, phis: &[Phi])
 }
 
 /// Adds the result of an instruction, if it has one.
-pub fn add_result(row: &mut NameRow, inst: &Inst)
+pub(crate) fn add_result(row: &mut NameRow, inst: &Inst)
     requires row { IsRow row.old.names row.old }
     requires names { All (λ v. v < row.old.names) (inst_ids (inst.now ∷ [])) }
     ensures row { (count : ℕ) → IsRow count row.old → IsRow count row.new }
@@ -56,7 +56,7 @@ fn add_insts(row: &mut NameRow, insts: &[Inst])
 }
 
 /// Adds all results of a block.
-pub fn add_results(row: &mut NameRow, block: &Block)
+pub(crate) fn add_results(row: &mut NameRow, block: &Block)
     requires row { IsRow row.old.names row.old }
     requires names { All (λ v. v < row.old.names) (block_ids block.now) }
     ensures row { (count : ℕ) → IsRow count row.old → IsRow count row.new }

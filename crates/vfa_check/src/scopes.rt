@@ -25,7 +25,7 @@ impl Scopes {
     ///
     /// In `entry: br i1 %c, label %a, label %b`, `a: %x = add i8 %p, 1`, `br label %b`, the parameter `%c` is defined at
     /// the entry of b, and `%x` is not.
-    pub fn defined(&self, b: BlockId, v: ValueId) -> bool
+    pub(crate) fn defined(&self, b: BlockId, v: ValueId) -> bool
         ensures value { result ≡ is_defined self.now b.0 v.0 }
         ensures scope { (f : Function) → AreScopes f self.now → MatchBool result (IsDefinedAt f b.0 0 v.0) (IsMissedAt f b.0 0 v.0) }
     {
@@ -40,7 +40,7 @@ impl Scopes {
     ///
     /// In `entry: br i1 %c, label %a, label %b`, `a: %x = add i8 %p, 1`, `br label %b`, the name `%x` is defined at the end
     /// of a.
-    pub fn defined_behind(&self, b: BlockId, v: ValueId) -> bool
+    pub(crate) fn defined_behind(&self, b: BlockId, v: ValueId) -> bool
         ensures value { result ≡ is_defined_behind self.now b.0 v.0 }
         ensures scope { (f : Function) → AreScopes f self.now →
             MatchBool result (IsDefinedAt f b.0 (line_count f b.0) v.0) (IsMissedAt f b.0 (line_count f b.0) v.0) }

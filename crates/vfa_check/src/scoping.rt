@@ -77,7 +77,7 @@ impl Scopes {
     ///
     /// In `entry: br label %a`, `a: %x = add i8 %p, 1`, `br i1 %c, label %a, label %b`, `b: ret i8 %x`, the name `%x` is in
     /// scope at the end of a and at the entry of b, and not at the entry of a, since the first walk there misses it.
-    pub fn of(alloc: Global, f: &Function, order: &[BlockId]) -> Result<Scopes, AllocError>
+    pub(crate) fn of(alloc: Global, f: &Function, order: &[BlockId]) -> Result<Scopes, AllocError>
         requires order { IsOrder f.now order.now }
         requires within { IsWithin f.now }
         requires few { HasFewBlocks f.now }

@@ -72,7 +72,7 @@ fn send_all(flow: &mut Flow, f: &Function, order: &[BlockId]) -> bool
 }
 
 /// Goes through the order until no entry loses a name.
-pub fn settle(flow: &mut Flow, f: &Function, order: &[BlockId])
+pub(crate) fn settle(flow: &mut Flow, f: &Function, order: &[BlockId])
     requires flow { IsFlow f.now (successors f.now) flow.old }
     requires within { IsWithin f.now }
     requires few { HasFewBlocks f.now }

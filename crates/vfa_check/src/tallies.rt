@@ -114,7 +114,7 @@ pub struct Tallies {
 
 impl Tallies {
     /// Those of so many blocks: nothing is tallied.
-    pub fn new(alloc: Global, blocks: usize) -> Result<Tallies, AllocError>
+    pub(crate) fn new(alloc: Global, blocks: usize) -> Result<Tallies, AllocError>
         ensures each { IfOk result (λ t. length t.left.items ≡ blocks) }
         ensures clear { IfOk result (λ t. AreClear t.left.items t.operands.items) }
     {
@@ -126,7 +126,7 @@ impl Tallies {
 
     /// Whether the entries of a phi name each of these predecessors once for each edge, with one operand where they name
     /// it more than once. After a yes nothing is tallied.
-    pub fn fits(&mut self, predecessors: &[BlockId], entries: &[(Operand, BlockId)]) -> bool
+    pub(crate) fn fits(&mut self, predecessors: &[BlockId], entries: &[(Operand, BlockId)]) -> bool
         requires clear { AreClear self.old.left.items self.old.operands.items }
         requires within { All (λ p. p.0 < length self.old.left.items) predecessors.now }
         ensures each { length self.new.left.items ≡ length self.old.left.items }

@@ -129,7 +129,7 @@ fn missed_in_block(
 /// use. Uses in blocks that no walk reaches are free.
 ///
 /// In `entry: br i1 %c, label %a, label %b`, `a: %x = add i8 %p, 1`, `br label %b`, `b: ret i8 %x` it is `%x` in b.
-pub fn undefined_use(f: &Function, scopes: &Scopes) -> Result<Option<MissedUse>, AllocError>
+pub(crate) fn undefined_use(f: &Function, scopes: &Scopes) -> Result<Option<MissedUse>, AllocError>
     requires scopes { AreScopes f.now scopes.now }
     requires within { IsWithin f.now }
     requires few { HasFewBlocks f.now }
