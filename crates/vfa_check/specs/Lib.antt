@@ -1,0 +1,13 @@
+pub mod Checked
+pub mod First
+pub mod Flow
+pub mod Items
+pub mod Misfit
+pub mod MissedUses
+pub mod NameRows
+pub mod Parts
+pub mod Predecessors
+pub mod Refusals
+pub mod Scopes
+pub mod Uses
+pub mod Within
