@@ -1,0 +1,3 @@
+pub mod AnyFacts
+pub mod Constants
+pub mod Rows
