@@ -1,3 +1,5 @@
 pub mod AnyFacts
+pub mod Binary
+pub mod Bounds
 pub mod Constants
 pub mod Rows

@@ -2,6 +2,8 @@
 #![tactic(auto)]
 
 mod any_fact;
+mod binary_rows;
+mod bounds;
 mod constants;
 mod rows;
 

@@ -42,7 +42,7 @@ impl<const W: u32> Row<W> {
 /// The cell of a fact's numbers, never poison where it is marked; that of poison alone where there is no fact.
 pub(crate) fn cell_with<const W: u32>(fact: Option<Fact<W>>, mark: bool) -> Cell
     requires { IsWidth W }
-    ensures { result ≡ cell_of W (option_map numbers_of fact) mark }
+    ensures { result ≡ cell_of W (option_map numbers_of fact.entry) mark }
 {
     match &fact {
         Some(known) => Cell::of(known, mark),
