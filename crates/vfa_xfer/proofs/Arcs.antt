@@ -1,5 +1,5 @@
 -- The arcs of rows are arcs of the width.
-use Rattle.std.proofs.Common.{◌≡◌, ℕ, ◌+◌, ◌-◌, ◌*◌, ◌%◌, ◌^◌, ◌<◌, ◌≤◌, Bool, true, false, cond, sym, subst, arith, inl, inr, Option, Some, None, ℤ}
+use Rattle.std.proofs.Common.{ℕ, ◌+◌, ◌-◌, ◌*◌, ◌%◌, ◌^◌, ◌<◌, Bool, true, false, cond, sym, subst, arith, inl, inr, Option, Some, None, ℤ}
 use Rattle.std.specs.Prelude.{IfSome, ◌==◌, nat_lt, int_le, pos, min, ◌&&◌}
 use Rattle.std.proofs.lemmas.Bool.{cases_lt}
 use Rattle.std.proofs.lemmas.Nat.{mod_below, pow_pos}

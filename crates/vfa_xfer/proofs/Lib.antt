@@ -1,5 +1,10 @@
 pub mod Arcs
+pub mod BinaryDivisions
+pub mod BinaryMarks
 pub mod BinaryRows
+pub mod BinaryShifts
+pub mod BinarySound
+pub mod ConstantResults
 pub mod Operand
 pub mod RowFacts
 pub mod RowSets

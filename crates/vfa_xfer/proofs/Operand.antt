@@ -1,15 +1,15 @@
 -- What is known of a number of a fact.
-use Rattle.std.proofs.Common.{◌≡◌, ◌≢◌, ℕ, ◌+◌, ◌^◌, ◌<◌, ◌≤◌, Bool, true, sym, ◌∙◌, refl, arith, Option, Some, None}
+use Rattle.std.proofs.Common.{◌≡◌, ◌≢◌, ℕ, ◌^◌, ◌<◌, ◌≤◌, true, sym, ap, refl, Option, Some, None}
 use Rattle.std.specs.Prelude.{IsTrue, IsSomeAnd, IfSome}
 use Rattle.std.specs.Int.{bit_at}
 use Rattle.std.specs.Option.{option_and_then}
 use Rattle.vfa_word.specs.Numbers.{IsWidth}
 use Rattle.vfa_dom.proofs.ResultSets.{results_from, over_passes}
 use Rattle.vfa_known.specs.Cube.{IsCube, in_masks}
-use Rattle.vfa_wrap.specs.Arc.{in_span, in_span_fits, IsArc}
+use Rattle.vfa_wrap.specs.Arc.{in_span}
 use Rattle.vfa_wrap.specs.Between.{Between, AreEnds}
 use Rattle.vfa_wrap.specs.Ends.{EndsOf}
-use Rattle.vfa_wrap.specs.Rows.{AreAmounts, AreDivisors, AreSecondEnds, row_by_ends, HoldsResults}
+use Rattle.vfa_wrap.specs.Rows.{AreAmounts, AreDivisors, AreSecondEnds, row_by_ends}
 use Rattle.vfa_wrap.specs.RowResults.{result_of}
 use Rattle.vfa_wrap.specs.declared.ends_op.EndsOp.{EndsOp}
 use Rattle.vfa_wrap.proofs.SetEnds.{between_ends, are_ends}
@@ -20,7 +20,7 @@ use Rattle.vfa_fact.specs.Fact.{IsFact, masks_in, span_in, in_numbers, in_number
 use Rattle.vfa_fact.proofs.CutEnds.{amounts_fit, amounts_cover, divisors_usable, divisors_cover}
 use Rattle.vfa_fact.proofs.Facts.{numbers_parts, fact_cube}
 use Rattle.vfa_xfer.specs.Binary.{ends_in_numbers, best_results, best_shifts, over_amounts, over_divisors}
-use Rattle.vfa_xfer.specs.Rows.{RowOf, row_numbers}
+use Rattle.vfa_xfer.specs.Rows.{RowOf}
 use Rattle.vfa_xfer.proofs.RowSets.{best_in}
 
 -- the ends of a fact
@@ -80,12 +80,34 @@ shift_bits w m op mask x t px below on fits = best_in w _ (op x t) fits
 
 -- ---- amounts and divisors
 
-pub record IsAmountOf (w : ℕ) (t : AmountsOf) (y : ℕ) : Type 0 where
-  pub usable : AreAmounts w t.ends
-  pub between : Between w t.ends y
-  pub on : bit_at t.mask y ≡ 1
+pub record IsChosen {A : Type 0} (U Q : A → Type 0) (o : Option A) : Type 0 where
+  pub it : A
+  pub is : o ≡ Some it
+  pub usable : U it
+  pub covers : Q it
 
-each_some : {A B : Type 0} (P : B → Type 0) (Q : A → Type 0) (U : A → Type 0) (o : Option A) (f : A → Option B) → IfSome o U → IsSomeAnd o Q →
-    ((a : A) → U a → Q a → IsSomeAnd (f a) P) → IsSomeAnd (option_and_then f o) P
-each_some P Q U (Some a) f u q tells = tells a u q
-each_some P Q U None f u q tells = absurd q
+chosen : {A : Type 0} (U Q : A → Type 0) (o : Option A) → IfSome o U → IsSomeAnd o Q → IsChosen U Q o
+chosen U Q (Some a) u q = record { it = a; is = refl; usable = u; covers = q }
+chosen U Q None u q = absurd q
+
+abbrev pub Amount : ℕ → ℕ → AmountsOf → Type 0
+Amount w y t = Between w t.ends y × (bit_at t.mask y ≡ 1)
+
+module _ (w : ℕ) (n : Numbers) (y : ℕ) (py : IsOperand w n y) where
+  -- the amounts of a fact that has one
+  pub amount : y < w → IsChosen {A = AmountsOf} (λ t. AreAmounts w t.ends) (Amount w y) (amounts_of w (in_numbers w n))
+  amount below = chosen {A = AmountsOf} (λ t. AreAmounts w t.ends) (Amount w y) (amounts_of w (in_numbers w n)) (amounts_fit w (in_numbers w n) py.width.least)
+      (amounts_cover w (in_numbers w n) py.width.least y below py.member)
+
+  -- the divisors of a fact that has one
+  pub divisor : y ≢ 0 → IsChosen {A = EndsOf} (AreDivisors w) (λ d. Between w d y) (divisors_of w (in_numbers w n))
+  divisor some = chosen {A = EndsOf} (AreDivisors w) (λ d. Between w d y) (divisors_of w (in_numbers w n)) (divisors_usable w (in_numbers w n) py.width.least)
+      (divisors_cover w (in_numbers w n) y py.width.least py.fits some py.member)
+
+pub at_amounts : (w : ℕ) (row : AmountsOf → Option RowOf) (n : Numbers) (t : AmountsOf) → amounts_of w (in_numbers w n) ≡ Some t → row t ≡ over_amounts w row n
+unfolding over_amounts
+at_amounts w row n t is = sym (ap (option_and_then row) is)
+
+pub at_divisors : (w : ℕ) (row : EndsOf → Option RowOf) (n : Numbers) (d : EndsOf) → divisors_of w (in_numbers w n) ≡ Some d → row d ≡ over_divisors w row n
+unfolding over_divisors
+at_divisors w row n d is = sym (ap (option_and_then row) is)

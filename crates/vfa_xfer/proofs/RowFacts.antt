@@ -1,5 +1,5 @@
 -- The facts of rows.
-use Rattle.std.proofs.Common.{◌≡◌, ℕ, ◌^◌, ◌<◌, Bool, ◌&&◌, true, ap, arith, Option, Some, None}
+use Rattle.std.proofs.Common.{◌≡◌, ℕ, ◌^◌, ◌<◌, Bool, ◌&&◌, true, ap, arith, Option, Some}
 use Rattle.vfa_dom.specs.Sets.{meet}
 use Rattle.vfa_known.specs.Known.{in_known}
 use Rattle.vfa_wrap.specs.Arc.{IsArc, in_span}

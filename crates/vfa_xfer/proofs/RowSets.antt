@@ -1,5 +1,5 @@
 -- The numbers of rows that are made of known bits, an arc and bounds.
-use Rattle.std.proofs.Common.{◌≡◌, ℕ, ◌^◌, ◌<◌, ◌≤◌, Bool, true, false, not, ◌&&◌, ◌||◌, sym, ◌∙◌, refl, arith, Option, Some, None}
+use Rattle.std.proofs.Common.{◌≡◌, ℕ, ◌^◌, ◌<◌, ◌≤◌, Bool, true, false, not, ◌&&◌, ◌||◌, sym, refl, Option, Some, None}
 use Rattle.std.specs.Prelude.{IsTrue, IsSomeAnd, IfSome}
 use Rattle.std.proofs.lemmas.Bool.{and_from, and_parts}
 use Rattle.vfa_ir.specs.declared.operations.Flags.{Flags}
@@ -10,7 +10,7 @@ use Rattle.vfa_known.specs.Cube.{in_masks}
 use Rattle.vfa_known.proofs.Cubes.{best_cube, in_masks_from}
 use Rattle.vfa_wrap.specs.Arc.{Span, IsArc, in_span}
 use Rattle.vfa_wrap.specs.Between.{Between, AreEnds}
-use Rattle.vfa_wrap.specs.Ends.{EndsOf, ends_of}
+use Rattle.vfa_wrap.specs.Ends.{EndsOf}
 use Rattle.vfa_wrap.specs.WholeSpans.{whole_read, fits_read, number_of, AreOperandEnds, lies_in_range, span_of_results}
 use Rattle.vfa_wrap.specs.declared.reading.Reading.{Reading}
 use Rattle.vfa_wrap.proofs.Circle.{in_full}

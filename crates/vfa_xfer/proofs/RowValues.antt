@@ -1,5 +1,5 @@
 -- What the code makes of known bits, arcs and bounds is what the rows say.
-use Rattle.std.proofs.Common.{◌≡◌, ◌≢◌, ℕ, Bool, true, false, not, sym, ◌∙◌, ap, refl, arith, Option, Some, None}
+use Rattle.std.proofs.Common.{◌≡◌, ◌≢◌, ℕ, ◌<◌, Bool, true, false, not, sym, ◌∙◌, ap, subst, refl, arith, Option, Some}
 use Rattle.std.specs.Option.{option_map, option_and_then}
 use Rattle.vfa_ir.specs.declared.operations.Flags.{Flags}
 use Rattle.vfa_word.specs.declared.arith.Arith.{Arith}
@@ -61,3 +61,10 @@ operand_ends Arith.Add w b other ends = ends
 operand_ends Arith.Sub w b other ends = ends
 operand_ends Arith.Mul w b other ends = ends
 operand_ends Arith.Shl w b other ends = absurd (other refl)
+
+-- the ends of amounts, where the operation is a shift
+pub shift_ends : (op : Arith) (w : ℕ) (known b : EndsOf) → b ≡ known → (op ≡ Arith.Shl → known.hi < w) → AreEnds w b → AreOperandEnds op w b
+shift_ends Arith.Add w known b same below ends = ends
+shift_ends Arith.Sub w known b same below ends = ends
+shift_ends Arith.Mul w known b same below ends = ends
+shift_ends Arith.Shl w known b same below ends = (ends, subst (λ (e : EndsOf). e.hi < w) (sym same) (below refl))

@@ -1,5 +1,5 @@
 -- What a transfer knows of the numbers that an operation gives of two sets of numbers: a row, whose numbers are sharpened.
-use Rattle.std.specs.Prelude.{ℕ, Bool, ◌&&◌, Option, Some, None}
+use Rattle.std.specs.Prelude.{ℕ, Bool, ◌&&◌, Option}
 use Rattle.std.specs.Option.{option_and_then}
 use Rattle.vfa_dom.specs.Best.{Masks}
 use Rattle.vfa_known.specs.Cube.{in_masks}

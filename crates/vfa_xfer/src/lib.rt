@@ -2,12 +2,14 @@
 #![tactic(auto)]
 
 mod any_fact;
+mod binary;
 mod binary_rows;
 mod bounds;
 mod constants;
 mod rows;
 
 pub use any_fact::AnyFact;
+pub use binary::transfer_binary;
 
 #[cfg(test)]
 mod tests;

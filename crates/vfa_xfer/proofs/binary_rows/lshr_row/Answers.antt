@@ -6,8 +6,6 @@ use Rattle.vfa_wrap.specs.declared.ends_op.EndsOp.{EndsOp}
 use Rattle.vfa_known.specs.Known.{masks_of}
 use Rattle.vfa_fact.specs.Views.{numbers_of}
 use Rattle.vfa_xfer.specs.Binary.{right_row}
-use Rattle.vfa_xfer.specs.Bounds.{wrap_bounds}
-use Rattle.vfa_word.specs.declared.arith.Arith.{Arith}
 use Rattle.vfa_xfer.proofs.RowValues.{amounts_at, shift_values, row_values}
 use Rattle.vfa_xfer.proofs.binary_rows.lshr_row.Goals as goal
 

@@ -1,4 +1,4 @@
-use Rattle.std.proofs.Common.{◌∙◌, ap, Some, bit_or}
+use Rattle.std.proofs.Common.{◌∙◌, bit_or}
 use Rattle.vfa_wrap.specs.Rows.{row_by_ends}
 use Rattle.vfa_wrap.specs.declared.ends_op.EndsOp.{EndsOp}
 use Rattle.vfa_known.specs.Known.{masks_of}

@@ -1,4 +1,4 @@
-use Rattle.std.proofs.Common.{◌∙◌, ap, Some}
+use Rattle.std.proofs.Common.{◌∙◌}
 use Rattle.vfa_word.specs.Operations.{shifted_left}
 use Rattle.vfa_wrap.specs.Ends.{shown_ends}
 use Rattle.vfa_wrap.specs.Rows.{row_by_ends}
