@@ -1,4 +1,5 @@
 pub mod Arcs
+pub mod BinaryCells
 pub mod BinaryDivisions
 pub mod BinaryMarks
 pub mod BinaryRows

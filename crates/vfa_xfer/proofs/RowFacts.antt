@@ -1,17 +1,25 @@
 -- The facts of rows.
-use Rattle.std.proofs.Common.{◌≡◌, ℕ, ◌^◌, ◌<◌, Bool, ◌&&◌, true, ap, arith, Option, Some}
+use Rattle.std.proofs.Common.{◌≡◌, ℕ, ◌-◌, ◌^◌, ◌<◌, Bool, ◌&&◌, true, refl, sym, ◌∙◌, ap, arith, Option, Some}
+use Rattle.std.proofs.lemmas.Bool.{and_from}
+use Rattle.std.proofs.lemmas.Nat.{pow_pos}
 use Rattle.vfa_dom.specs.Sets.{meet}
+use Rattle.vfa_dom.proofs.SetSearches.{meet_from}
+use Rattle.vfa_known.specs.Cube.{in_masks}
+use Rattle.vfa_known.proofs.Cubes.{in_masks_from}
+use Rattle.vfa_known.proofs.Members.{any_cube, any_member}
 use Rattle.vfa_known.specs.Known.{in_known}
-use Rattle.vfa_wrap.specs.Arc.{IsArc, in_span}
+use Rattle.vfa_wrap.specs.Arc.{IsArc, in_span, full_span}
 use Rattle.vfa_wrap.specs.Wrapped.{span_of, in_arc}
 use Rattle.vfa_fact.specs.declared.numbers.Numbers.{Numbers}
-use Rattle.vfa_fact.specs.Cells.{in_option}
-use Rattle.vfa_fact.specs.Fact.{IsFact}
+use Rattle.vfa_wrap.proofs.Circle.{in_full}
+use Rattle.vfa_fact.specs.Cells.{in_option, all_numbers}
+use Rattle.vfa_fact.specs.Fact.{IsFact, in_numbers}
 use Rattle.vfa_fact.specs.Sharp.{sharp_in}
 use Rattle.vfa_fact.specs.Views.{in_test}
 use Rattle.vfa_fact.proofs.SharpSets.{sharp_alike}
-use Rattle.vfa_fact.proofs.SharpArcs.{sharp_in_fact, sharp_in_has}
-use Rattle.vfa_xfer.specs.Rows.{RowOf, in_row, row_fact, shown_row}
+use Rattle.vfa_fact.proofs.SharpArcs.{sharp_in_fact, sharp_in_has, fact_again}
+use Rattle.vfa_fact.proofs.CellNumbers.{all_fact, all_has}
+use Rattle.vfa_xfer.specs.Rows.{RowOf, in_row, row_fact, full_row, shown_row}
 use Rattle.vfa_xfer.specs.declared.rows.Row.{Row}
 
 -- a number of the row in the arc is one of the fact
@@ -22,6 +30,20 @@ row_holds w r o arc same x fits here member = sharp_in_has w r.arc (in_row w r) 
 -- what there is is a fact
 pub row_is_fact : (w : ℕ) (r : RowOf) (n : Numbers) → IsArc w r.arc → row_fact w r ≡ Some n → IsFact w n
 row_is_fact w r n arc same = sharp_in_fact w r.arc (in_row w r) arc n same
+
+row_from : (w : ℕ) (r : RowOf) (x : ℕ) → in_masks w r.cube x ≡ true → in_span w r.one x ≡ true → in_span w r.two x ≡ true → in_row w r x ≡ true
+unfolding in_row
+row_from w r x cube one two = and_from (in_masks w r.cube x) (in_span w r.one x && in_span w r.two x) cube
+    (and_from (in_span w r.one x) (in_span w r.two x) one two)
+
+-- the row of all numbers has the fact of all numbers
+pub full_row_fact : (w : ℕ) → row_fact w (full_row w) ≡ Some (all_numbers w)
+full_row_fact w =
+    sharp_alike w 0 (meet (in_span w (full_span w)) (in_row w (full_row w))) (in_numbers w (all_numbers w)) (pow_pos w) (λ x fits.
+    meet_from (in_span w (full_span w)) (in_row w (full_row w)) x (in_full w x fits)
+    (row_from w (full_row w) x (in_masks_from w 0 0 (any_cube w) x (any_member w x fits)) (in_full w x fits) (in_full w x fits))
+    ∙ sym (all_has w (2 ^ w - 1) x refl fits))
+    ∙ fact_again w (all_numbers w) (all_fact w (2 ^ w - 1) refl)
 
 cube_twice : (k t : Bool) → (k && (k && t)) ≡ (k && t)
 cube_twice k t = grind arith
