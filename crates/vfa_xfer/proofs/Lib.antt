@@ -1,12 +1,3 @@
-pub mod Arcs
-pub mod BinaryCells
-pub mod BinaryDivisions
-pub mod BinaryMarks
-pub mod BinaryRows
-pub mod BinaryShifts
-pub mod BinarySound
 pub mod ConstantResults
-pub mod Operand
-pub mod RowFacts
-pub mod RowSets
+pub mod RowTests
 pub mod RowValues

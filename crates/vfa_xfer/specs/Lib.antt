@@ -1,5 +1,15 @@
 pub mod AnyFacts
+pub mod Arcs
 pub mod Binary
+pub mod BinaryCells
+pub mod BinaryDivisions
+pub mod BinaryMarks
+pub mod BinaryRows
+pub mod BinaryShifts
+pub mod BinarySound
 pub mod Bounds
 pub mod Constants
+pub mod Operand
+pub mod RowFacts
+pub mod RowSets
 pub mod Rows

@@ -1,7 +1,7 @@
 use Rattle.std.proofs.Common.{sym, subst}
 use Rattle.vfa_fact.specs.Cells.{CellValue, IsCell}
 use Rattle.vfa_xfer.specs.AnyFacts.{CellHolds}
-use Rattle.vfa_xfer.proofs.BinarySound.{binary_holds}
+use Rattle.vfa_xfer.specs.BinarySound.{binary_holds}
 use Rattle.vfa_xfer.proofs.binary.transfer_binary.Goals as goal
 
 pub returns-clause-holds : goal.returns-clause-holds

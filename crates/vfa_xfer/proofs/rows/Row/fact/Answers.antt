@@ -1,6 +1,6 @@
 use Rattle.std.proofs.Common.{◌≡◌, ◌∙◌, ap, sym, Some}
 use Rattle.vfa_xfer.specs.Rows.{row_fact, full_row, shown_row}
-use Rattle.vfa_xfer.proofs.RowFacts.{row_is_tested, full_row_fact}
+use Rattle.vfa_xfer.proofs.RowTests.{row_is_tested, full_row_fact}
 use Rattle.vfa_xfer.proofs.rows.Row.fact.Goals as goal
 
 pub returns-then-asks_nothing : goal.returns-then-asks_nothing

@@ -1,5 +1,5 @@
--- The facts of rows.
-use Rattle.std.proofs.Common.{◌≡◌, ℕ, ◌-◌, ◌^◌, ◌<◌, Bool, ◌&&◌, true, refl, sym, ◌∙◌, ap, arith, Option, Some}
+-- What the code asks of the numbers of a row is what the row says.
+use Rattle.std.proofs.Common.{◌≡◌, ℕ, ◌-◌, ◌^◌, Bool, ◌&&◌, true, refl, sym, ◌∙◌, ap, arith, Some}
 use Rattle.std.proofs.lemmas.Bool.{and_from}
 use Rattle.std.proofs.lemmas.Nat.{pow_pos}
 use Rattle.vfa_dom.specs.Sets.{meet}
@@ -8,28 +8,18 @@ use Rattle.vfa_known.specs.Cube.{in_masks}
 use Rattle.vfa_known.proofs.Cubes.{in_masks_from}
 use Rattle.vfa_known.proofs.Members.{any_cube, any_member}
 use Rattle.vfa_known.specs.Known.{in_known}
-use Rattle.vfa_wrap.specs.Arc.{IsArc, in_span, full_span}
+use Rattle.vfa_wrap.specs.Arc.{in_span, full_span}
 use Rattle.vfa_wrap.specs.Wrapped.{span_of, in_arc}
-use Rattle.vfa_fact.specs.declared.numbers.Numbers.{Numbers}
 use Rattle.vfa_wrap.proofs.Circle.{in_full}
-use Rattle.vfa_fact.specs.Cells.{in_option, all_numbers}
-use Rattle.vfa_fact.specs.Fact.{IsFact, in_numbers}
+use Rattle.vfa_fact.specs.Cells.{all_numbers}
+use Rattle.vfa_fact.specs.Fact.{in_numbers}
 use Rattle.vfa_fact.specs.Sharp.{sharp_in}
 use Rattle.vfa_fact.specs.Views.{in_test}
 use Rattle.vfa_fact.proofs.SharpSets.{sharp_alike}
-use Rattle.vfa_fact.proofs.SharpArcs.{sharp_in_fact, sharp_in_has, fact_again}
+use Rattle.vfa_fact.proofs.SharpArcs.{fact_again}
 use Rattle.vfa_fact.proofs.CellNumbers.{all_fact, all_has}
 use Rattle.vfa_xfer.specs.Rows.{RowOf, in_row, row_fact, full_row, shown_row}
 use Rattle.vfa_xfer.specs.declared.rows.Row.{Row}
-
--- a number of the row in the arc is one of the fact
-pub row_holds : (w : ℕ) (r : RowOf) (o : Option Numbers) → IsArc w r.arc → o ≡ row_fact w r → (x : ℕ) → x < 2 ^ w →
-    in_span w r.arc x ≡ true → in_row w r x ≡ true → in_option w o x ≡ true
-row_holds w r o arc same x fits here member = sharp_in_has w r.arc (in_row w r) arc o same x fits here member
-
--- what there is is a fact
-pub row_is_fact : (w : ℕ) (r : RowOf) (n : Numbers) → IsArc w r.arc → row_fact w r ≡ Some n → IsFact w n
-row_is_fact w r n arc same = sharp_in_fact w r.arc (in_row w r) arc n same
 
 row_from : (w : ℕ) (r : RowOf) (x : ℕ) → in_masks w r.cube x ≡ true → in_span w r.one x ≡ true → in_span w r.two x ≡ true → in_row w r x ≡ true
 unfolding in_row

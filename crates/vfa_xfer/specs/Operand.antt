@@ -1,3 +1,4 @@
+-- helper: in no public contract
 -- What is known of a number of a fact.
 use Rattle.std.proofs.Common.{◌≡◌, ◌≢◌, ℕ, ◌^◌, ◌<◌, ◌≤◌, true, sym, ap, refl, Option, Some, None}
 use Rattle.std.specs.Prelude.{IsTrue, IsSomeAnd, IfSome}
@@ -21,7 +22,7 @@ use Rattle.vfa_fact.proofs.CutEnds.{amounts_fit, amounts_cover, divisors_usable,
 use Rattle.vfa_fact.proofs.Facts.{numbers_parts, fact_cube}
 use Rattle.vfa_xfer.specs.Binary.{ends_in_numbers, best_results, best_shifts, over_amounts, over_divisors}
 use Rattle.vfa_xfer.specs.Rows.{RowOf}
-use Rattle.vfa_xfer.proofs.RowSets.{best_in}
+use Rattle.vfa_xfer.specs.RowSets.{best_in}
 
 -- the ends of a fact
 pub fact_ends : (w : ℕ) (n : Numbers) → 1 ≤ w → IsFact w n → AreEnds w (ends_in_numbers w n)

@@ -1,3 +1,4 @@
+-- helper: in no public contract
 -- Where an operation never breaks on numbers of two facts, it gives no poison of them.
 use Rattle.std.proofs.Common.{◌≡◌, ℕ, ◌-◌, ◌*◌, ◌%◌, ◌^◌, ◌<◌, ◌≤◌, inl, inr, Bool, true, false, not, ◌&&◌, ◌||◌, nat_eq, ◌∙◌, ap, refl, arith, bit_and, bit_or, pos, ◌*ℤ◌}
 use Rattle.std.specs.Prelude.{nat_le}
@@ -22,10 +23,10 @@ use Rattle.vfa_mean.specs.Meaning.{Allowed, Gave, binary, minus_one}
 use Rattle.vfa_mean.specs.Rows.{loses_ones, divide, divide_signed, remainder, remainder_signed}
 use Rattle.vfa_xfer.specs.Binary.{ends_in_numbers, shifts_within, drops_zeros, are_disjoint, never_breaks}
 use Rattle.vfa_xfer.specs.Bounds.{keeps_in_range}
-use Rattle.vfa_xfer.proofs.BinaryDivisions.{defined}
-use Rattle.vfa_xfer.proofs.BinaryRows.{poison_tells}
-use Rattle.vfa_xfer.proofs.Operand.{IsOperand}
-use Rattle.vfa_xfer.proofs.RowSets.{keeps_tells}
+use Rattle.vfa_xfer.specs.BinaryDivisions.{defined}
+use Rattle.vfa_xfer.specs.BinaryRows.{poison_tells}
+use Rattle.vfa_xfer.specs.Operand.{IsOperand}
+use Rattle.vfa_xfer.specs.RowSets.{keeps_tells}
 
 -- no flag that stands is broken
 clash : (f l h m : Bool) → (f ≡ true → l ≡ true) → (h ≡ true → m ≡ true) → (f && not l || h && not m) ≡ true → ⊥

@@ -1,3 +1,4 @@
+-- helper: in no public contract
 -- Each number that a division or remainder gives of numbers of two facts is one of its row's.
 use Rattle.std.proofs.Common.{◌≡◌, ◌≢◌, ℕ, zero, suc, ◌-◌, ◌/◌, ◌%◌, ◌^◌, ◌<◌, ◌≤◌, Bool, true, false, ◌&&◌, ◌||◌, cond, nat_eq, sym, ◌∙◌, ap, subst, refl, arith, Option, Some, None, ℤ, pos, negsuc, neg_ℤ, int_div, lt-ltb, ltb-true}
 use Rattle.std.specs.Prelude.{◌==◌}
@@ -24,10 +25,10 @@ use Rattle.vfa_mean.specs.Rows.{divide, divide_signed, remainder, remainder_sign
 use Rattle.vfa_xfer.specs.Binary.{ends_in_numbers, no_masks, division_row, over_divisors}
 use Rattle.vfa_xfer.specs.Bounds.{no_bounds}
 use Rattle.vfa_xfer.specs.Rows.{RowOf, row_numbers}
-use Rattle.vfa_xfer.proofs.Arcs.{row_arc}
-use Rattle.vfa_xfer.proofs.BinaryRows.{Has, number_tells, number_is}
-use Rattle.vfa_xfer.proofs.Operand.{IsOperand, result_here, divisor, at_divisors}
-use Rattle.vfa_xfer.proofs.RowSets.{row_of_holds, no_bounds_hold}
+use Rattle.vfa_xfer.specs.Arcs.{row_arc}
+use Rattle.vfa_xfer.specs.BinaryRows.{Has, number_tells, number_is}
+use Rattle.vfa_xfer.specs.Operand.{IsOperand, result_here, divisor, at_divisors}
+use Rattle.vfa_xfer.specs.RowSets.{row_of_holds, no_bounds_hold}
 
 -- what is given where there is undefined behaviour by a test
 pub record Defined (test : Bool) (d : Done) (v : Val) : Type 0 where

@@ -1,3 +1,4 @@
+-- helper: in no public contract
 -- Each number that a shift gives of a number and an amount of two facts is one of its row's.
 use Rattle.std.proofs.Common.{◌≡◌, ℕ, ◌*◌, ◌^◌, ◌<◌, Bool, true, false, ◌&&◌, ◌||◌, cond, nat_lt, ap, subst, arith, Option, Some, None, pos, ◌*ℤ◌}
 use Rattle.std.specs.Prelude.{nat_le}
@@ -22,10 +23,10 @@ use Rattle.vfa_mean.specs.Rows.{shift_left, shift_right, shift_right_signed, shi
 use Rattle.vfa_xfer.specs.Binary.{ends_in_numbers, best_shifts, left_row, right_row, right_signed_row, over_amounts}
 use Rattle.vfa_xfer.specs.Bounds.{no_bounds}
 use Rattle.vfa_xfer.specs.Rows.{RowOf, row_numbers}
-use Rattle.vfa_xfer.proofs.Arcs.{row_arc}
-use Rattle.vfa_xfer.proofs.BinaryRows.{Has, number_tells, flags_kept}
-use Rattle.vfa_xfer.proofs.Operand.{IsOperand, result_here, shift_bits, amount, at_amounts}
-use Rattle.vfa_xfer.proofs.RowSets.{row_of_holds, no_bounds_hold, wrap_bounds_hold}
+use Rattle.vfa_xfer.specs.Arcs.{row_arc}
+use Rattle.vfa_xfer.specs.BinaryRows.{Has, number_tells, flags_kept}
+use Rattle.vfa_xfer.specs.Operand.{IsOperand, result_here, shift_bits, amount, at_amounts}
+use Rattle.vfa_xfer.specs.RowSets.{row_of_holds, no_bounds_hold, wrap_bounds_hold}
 
 -- an amount is below the width, where the result is no poison
 pub below_width : (w t : ℕ) (rest : Bool) → (nat_le w t || rest) ≡ false → (t < w) × (rest ≡ false)

@@ -1,3 +1,4 @@
+-- helper: in no public contract
 -- The cell that a transfer gives of two cells is a cell.
 use Rattle.std.proofs.Common.{◌≡◌, ℕ, ◌^◌, ◌<◌, ◌≤◌, Bool, false, ◌&&◌, sym, ap, subst, refl, Option, Some, None, bit_and, bit_or, bit_xor}
 use Rattle.std.specs.Option.{option_and_then, is_some}
@@ -27,9 +28,9 @@ use Rattle.vfa_xfer.specs.Binary.{ends_in_numbers, best_results, best_shifts, no
 use Rattle.vfa_xfer.specs.Bounds.{no_bounds, both_bounds, bound_if, wrap_bounds}
 use Rattle.vfa_xfer.specs.Constants.{constant_numbers, single_in}
 use Rattle.vfa_xfer.specs.Rows.{RowOf, row_numbers}
-use Rattle.vfa_xfer.proofs.Arcs.{full_arc, sum_arc, difference_arc, row_arc}
-use Rattle.vfa_xfer.proofs.BinarySound.{only_is_fact, where_holds}
-use Rattle.vfa_xfer.proofs.RowSets.{row_of_fact}
+use Rattle.vfa_xfer.specs.Arcs.{full_arc, sum_arc, difference_arc, row_arc}
+use Rattle.vfa_xfer.specs.BinarySound.{only_is_fact, where_holds}
+use Rattle.vfa_xfer.specs.RowSets.{row_of_fact}
 
 -- ---- cells with numbers
 

@@ -1,3 +1,4 @@
+-- helper: in no public contract
 -- Each number that a binary operation gives of numbers of two facts is one of its row's.
 use Rattle.std.proofs.Common.{◌≡◌, ℕ, ◌+◌, ◌*◌, ◌^◌, ◌<◌, inl, inr, Bool, true, false, not, ◌&&◌, ◌||◌, cond, nat_eq, sym, ◌∙◌, ap, subst, refl, arith, bit_and, bit_or, bit_xor, Option, Some, None, pos, mod-eq_of_lt}
 use Rattle.std.specs.Prelude.{IsTrue, IsSomeAnd}
@@ -34,9 +35,9 @@ use Rattle.vfa_mean.specs.Rows.{number, number_unless, arithmetic, bitwise_and, 
 use Rattle.vfa_xfer.specs.Binary.{ends_in_numbers, best_results, sum_row, difference_row, product_row, and_bits_row, or_bits_row, xor_bits_row, disjoint_bound}
 use Rattle.vfa_xfer.specs.Bounds.{no_bounds, span_bound}
 use Rattle.vfa_xfer.specs.Rows.{row_numbers}
-use Rattle.vfa_xfer.proofs.Arcs.{full_arc, sum_arc, difference_arc, row_arc}
-use Rattle.vfa_xfer.proofs.Operand.{IsOperand, result_bits, result_here}
-use Rattle.vfa_xfer.proofs.RowSets.{row_of_holds, no_bounds_hold, wrap_bounds_hold, bound_if_holds, both_hold}
+use Rattle.vfa_xfer.specs.Arcs.{full_arc, sum_arc, difference_arc, row_arc}
+use Rattle.vfa_xfer.specs.Operand.{IsOperand, result_bits, result_here}
+use Rattle.vfa_xfer.specs.RowSets.{row_of_holds, no_bounds_hold, wrap_bounds_hold, bound_if_holds, both_hold}
 
 -- ---- what a number that is given tells
 

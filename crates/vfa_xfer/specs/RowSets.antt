@@ -1,3 +1,4 @@
+-- helper: in no public contract
 -- The numbers of rows that are made of known bits, an arc and bounds.
 use Rattle.std.proofs.Common.{◌≡◌, ℕ, ◌^◌, ◌<◌, ◌≤◌, Bool, true, false, not, ◌&&◌, ◌||◌, sym, refl, Option, Some, None}
 use Rattle.std.specs.Prelude.{IsTrue, IsSomeAnd, IfSome}
@@ -21,7 +22,7 @@ use Rattle.vfa_fact.specs.Fact.{IsFact}
 use Rattle.vfa_fact.proofs.SharpSets.{Member, member_test}
 use Rattle.vfa_xfer.specs.Bounds.{BoundsOf, no_bounds, both_bounds, bound_if, wrap_bounds, row_of, keeps_in_range}
 use Rattle.vfa_xfer.specs.Rows.{RowOf, in_row, row_numbers}
-use Rattle.vfa_xfer.proofs.RowFacts.{row_holds, row_is_fact}
+use Rattle.vfa_xfer.specs.RowFacts.{row_holds, row_is_fact}
 
 -- a member agrees with the best masks of its set
 pub best_in : (w : ℕ) (S : ℕ → Bool) (x : ℕ) → x < 2 ^ w → S x ≡ true → in_masks w (best_of w S) x ≡ true

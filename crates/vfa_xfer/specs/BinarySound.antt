@@ -1,3 +1,4 @@
+-- helper: in no public contract
 -- The cell that a transfer gives of two cells holds of each result of values of which these hold.
 use Rattle.std.proofs.Common.{◌≡◌, ℕ, ◌+◌, ◌-◌, ◌^◌, ◌<◌, ◌≤◌, Bool, true, false, ◌&&◌, ◌||◌, cond, nat_eq, sym, ◌∙◌, ap, subst, refl, arith, Option, Some, None}
 use Rattle.std.specs.Option.{is_some}
@@ -26,11 +27,11 @@ use Rattle.vfa_xfer.specs.AnyFacts.{CellHolds}
 use Rattle.vfa_xfer.specs.Binary.{binary_row, binary_constant, binary_by_row, binary_cell, operands_marked, never_breaks}
 use Rattle.vfa_xfer.specs.Constants.{constant_numbers, single_in, where_single}
 use Rattle.vfa_xfer.specs.Rows.{row_numbers}
-use Rattle.vfa_xfer.proofs.BinaryDivisions.{quotient_has, remainder_has, signed_quotient_has, signed_remainder_has}
-use Rattle.vfa_xfer.proofs.BinaryMarks.{clean}
-use Rattle.vfa_xfer.proofs.BinaryRows.{Has, sum_has, difference_has, product_has, and_has, or_has, xor_has}
-use Rattle.vfa_xfer.proofs.BinaryShifts.{left_has, right_has, right_signed_has}
-use Rattle.vfa_xfer.proofs.Operand.{IsOperand, operand}
+use Rattle.vfa_xfer.specs.BinaryDivisions.{quotient_has, remainder_has, signed_quotient_has, signed_remainder_has}
+use Rattle.vfa_xfer.specs.BinaryMarks.{clean}
+use Rattle.vfa_xfer.specs.BinaryRows.{Has, sum_has, difference_has, product_has, and_has, or_has, xor_has}
+use Rattle.vfa_xfer.specs.BinaryShifts.{left_has, right_has, right_signed_has}
+use Rattle.vfa_xfer.specs.Operand.{IsOperand, operand}
 
 -- ---- numbers of two facts
 
