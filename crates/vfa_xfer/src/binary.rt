@@ -191,3 +191,6 @@ pub fn transfer_binary(bin: Bin, flags: Flags, a: &Cell, b: &Cell) -> Cell
     let _widths = (a.width, b.width);
     binary_cell(bin, flags, a, b)
 }
+
+#[cfg(test)]
+mod tests;

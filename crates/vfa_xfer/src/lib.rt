@@ -10,6 +10,3 @@ mod rows;
 
 pub use any_fact::AnyFact;
 pub use binary::transfer_binary;
-
-#[cfg(test)]
-mod tests;
