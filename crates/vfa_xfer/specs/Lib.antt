@@ -1,3 +1,11 @@
 pub mod AnyFacts
+pub mod CellLaws
 pub mod Constants
+pub mod FactAnswers
+pub mod FactLaws
+pub mod LowBits
+pub mod Ranks
+pub mod Restrictions
 pub mod Rows
+pub mod Widening
+pub mod WideningLaws

@@ -3,7 +3,13 @@
 
 mod any_fact;
 mod constants;
+mod fact_calls;
+mod inclusion;
+mod ranks;
+mod restrictions;
 mod rows;
+mod same;
+mod widening;
 
 pub use any_fact::AnyFact;
 
