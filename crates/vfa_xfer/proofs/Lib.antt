@@ -1,7 +1,9 @@
+pub mod ConstantResults
 pub mod Inclusions
 pub mod LowMasks
 pub mod Ranked
-pub mod RowFacts
+pub mod RowTests
+pub mod RowValues
 pub mod SameSpans
 pub mod Wanted
 pub mod Widened

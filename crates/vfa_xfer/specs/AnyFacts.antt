@@ -1,5 +1,5 @@
 -- Facts of values of any type, this project's own: a cell for a number, and one for each part of a pair.
-use Rattle.std.specs.Prelude.{◌≡◌, ℕ, false, IsTrue}
+use Rattle.std.specs.Prelude.{◌≡◌, false, IsTrue}
 use Rattle.vfa_ir.specs.declared.operations.Ty.{Ty}
 use Rattle.vfa_fact.specs.declared.cell.Parts.{Parts}
 use Rattle.vfa_fact.specs.Cells.{CellValue, IsCell, in_cell}

@@ -27,8 +27,8 @@ constant_numbers w d = option_map (only_number w) (number_given d)
 abbrev pub single_in : CellValue → Option ℕ
 single_in c = single_of c.width (in_cell c)
 
--- the one of two numbers where both are there, else the other
-abbrev pub constant_or : Option ℕ → Option ℕ → (ℕ → ℕ → Option Numbers) → Option Numbers → Option Numbers
-constant_or (Some x) (Some y) constant other = constant x y
-constant_or (Some x) None constant other = other
-constant_or None y constant other = other
+-- what is made of two numbers where both are there, else the other
+abbrev pub where_single : {A : Type 0} → Option ℕ → Option ℕ → (ℕ → ℕ → A) → A → A
+where_single (Some x) (Some y) constant other = constant x y
+where_single (Some x) None constant other = other
+where_single None y constant other = other

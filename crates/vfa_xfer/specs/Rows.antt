@@ -1,10 +1,10 @@
 -- What a transfer knows of the numbers that an operation gives of two sets of numbers: a row, whose numbers are sharpened.
-use Rattle.std.specs.Prelude.{ℕ, Bool, ◌&&◌, Option, Some, None}
+use Rattle.std.specs.Prelude.{ℕ, Bool, ◌&&◌, Option}
 use Rattle.std.specs.Option.{option_and_then}
 use Rattle.vfa_dom.specs.Best.{Masks}
 use Rattle.vfa_known.specs.Cube.{in_masks}
 use Rattle.vfa_known.specs.Known.{masks_of}
-use Rattle.vfa_wrap.specs.Arc.{Span, in_span}
+use Rattle.vfa_wrap.specs.Arc.{Span, in_span, full_span}
 use Rattle.vfa_wrap.specs.Wrapped.{span_of}
 use Rattle.vfa_fact.specs.declared.numbers.Numbers.{Numbers}
 use Rattle.vfa_fact.specs.Sharp.{sharp_in}
@@ -28,6 +28,10 @@ row_fact w r = sharp_in w r.arc (in_row w r)
 -- the same of a row that may be empty
 abbrev pub row_numbers : ℕ → Option RowOf → Option Numbers
 row_numbers w r = option_and_then (row_fact w) r
+
+-- the row of all numbers
+abbrev pub full_row : ℕ → RowOf
+full_row w = record { cube = record { zeros = 0; ones = 0 }; arc = full_span w; one = full_span w; two = full_span w }
 
 -- the row that a value of the program shows
 abbrev pub shown_row : {W : ℕ} → Row W → RowOf

@@ -2,6 +2,9 @@
 #![tactic(auto)]
 
 mod any_fact;
+mod binary;
+mod binary_rows;
+mod bounds;
 mod constants;
 mod fact_calls;
 mod inclusion;
@@ -12,6 +15,7 @@ mod same;
 mod widening;
 
 pub use any_fact::AnyFact;
+pub use binary::transfer_binary;
 
 #[cfg(test)]
 mod tests;

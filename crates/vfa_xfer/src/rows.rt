@@ -5,8 +5,10 @@ ghost use Rattle.std.specs.Option.{option_map};
 ghost use Rattle.vfa_fact.specs.Cells.{cell_of, IsCell};
 ghost use Rattle.vfa_fact.specs.Views.{numbers_of};
 ghost use Rattle.vfa_word.specs.Numbers.{IsWidth};
-ghost use Rattle.vfa_xfer.specs.Rows.{shown_row, row_fact};
+ghost use Rattle.vfa_xfer.specs.Rows.{shown_row, row_fact, full_row};
+ghost use Rattle.std.specs.Bool.{OnTrue};
 
+use vfa_dom::Domain;
 use vfa_fact::{Cell, Fact, Test};
 use vfa_known::Known;
 use vfa_wrap::Wrapped;
@@ -26,10 +28,24 @@ pub(crate) struct Row<const W: u32> {
 }
 
 impl<const W: u32> Row<W> {
+    /// Whether the row asks for nothing, so that it has all numbers.
+    fn asks_nothing(&self) -> bool
+        ensures { OnTrue result (shown_row self.now ≡ full_row W) }
+    {
+        self.cube.zeros() == 0
+            && self.cube.ones() == 0
+            && self.arc.full()
+            && self.one.full()
+            && self.two.full()
+    }
+
     /// The fact of the row's numbers; None exactly where there is none.
     pub(crate) fn fact(&self) -> Option<Fact<W>>
         ensures { option_map numbers_of result ≡ row_fact W (shown_row self.now) }
     {
+        if self.asks_nothing() {
+            return Some(Fact::any());
+        }
         let test = Test {
             cube: self.cube,
             one: self.one,
@@ -42,7 +58,7 @@ impl<const W: u32> Row<W> {
 /// The cell of a fact's numbers, never poison where it is marked; that of poison alone where there is no fact.
 pub(crate) fn cell_with<const W: u32>(fact: Option<Fact<W>>, mark: bool) -> Cell
     requires { IsWidth W }
-    ensures { result ≡ cell_of W (option_map numbers_of fact) mark }
+    ensures { result ≡ cell_of W (option_map numbers_of fact.entry) mark }
 {
     match &fact {
         Some(known) => Cell::of(known, mark),
