@@ -1,3 +1,9 @@
 pub mod ConstantResults
+pub mod Inclusions
+pub mod LowMasks
+pub mod Ranked
 pub mod RowTests
 pub mod RowValues
+pub mod SameSpans
+pub mod Wanted
+pub mod Widened

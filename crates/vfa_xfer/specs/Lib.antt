@@ -8,8 +8,16 @@ pub mod BinaryRows
 pub mod BinaryShifts
 pub mod BinarySound
 pub mod Bounds
+pub mod CellLaws
 pub mod Constants
+pub mod FactAnswers
+pub mod FactLaws
+pub mod LowBits
 pub mod Operand
+pub mod Ranks
+pub mod Restrictions
 pub mod RowFacts
 pub mod RowSets
 pub mod Rows
+pub mod Widening
+pub mod WideningLaws
