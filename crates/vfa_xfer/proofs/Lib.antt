@@ -1,3 +1,6 @@
 pub mod ConstantResults
 pub mod RowTests
 pub mod RowValues
+pub mod OneSign
+pub mod CellSets
+pub mod CastRows
