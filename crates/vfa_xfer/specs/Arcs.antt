@@ -1,4 +1,3 @@
--- helper: in no public contract
 -- The arcs of rows are arcs of the width.
 use Rattle.std.proofs.Common.{ℕ, ◌+◌, ◌-◌, ◌*◌, ◌%◌, ◌^◌, ◌<◌, Bool, true, false, cond, sym, subst, arith, inl, inr, Option, Some, None, ℤ}
 use Rattle.std.specs.Prelude.{IfSome, ◌==◌, nat_lt, int_le, pos, min, ◌&&◌}

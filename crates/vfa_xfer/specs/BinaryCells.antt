@@ -1,4 +1,3 @@
--- helper: in no public contract
 -- The cell that a transfer gives of two cells is a cell.
 use Rattle.std.proofs.Common.{◌≡◌, ℕ, ◌^◌, ◌<◌, ◌≤◌, Bool, false, ◌&&◌, sym, ap, subst, refl, Option, Some, None, bit_and, bit_or, bit_xor}
 use Rattle.std.specs.Option.{option_and_then, is_some}

@@ -1,4 +1,3 @@
--- helper: in no public contract
 -- Each number that a division or remainder gives of numbers of two facts is one of its row's.
 use Rattle.std.proofs.Common.{◌≡◌, ◌≢◌, ℕ, zero, suc, ◌-◌, ◌/◌, ◌%◌, ◌^◌, ◌<◌, ◌≤◌, Bool, true, false, ◌&&◌, ◌||◌, cond, nat_eq, sym, ◌∙◌, ap, subst, refl, arith, Option, Some, None, ℤ, pos, negsuc, neg_ℤ, int_div, lt-ltb, ltb-true}
 use Rattle.std.specs.Prelude.{◌==◌}

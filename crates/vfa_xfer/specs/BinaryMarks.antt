@@ -1,4 +1,3 @@
--- helper: in no public contract
 -- Where an operation never breaks on numbers of two facts, it gives no poison of them.
 use Rattle.std.proofs.Common.{◌≡◌, ℕ, ◌-◌, ◌*◌, ◌%◌, ◌^◌, ◌<◌, ◌≤◌, inl, inr, Bool, true, false, not, ◌&&◌, ◌||◌, nat_eq, ◌∙◌, ap, refl, arith, bit_and, bit_or, pos, ◌*ℤ◌}
 use Rattle.std.specs.Prelude.{nat_le}

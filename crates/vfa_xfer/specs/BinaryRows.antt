@@ -1,4 +1,3 @@
--- helper: in no public contract
 -- Each number that a binary operation gives of numbers of two facts is one of its row's.
 use Rattle.std.proofs.Common.{◌≡◌, ℕ, ◌+◌, ◌*◌, ◌^◌, ◌<◌, inl, inr, Bool, true, false, not, ◌&&◌, ◌||◌, cond, nat_eq, sym, ◌∙◌, ap, subst, refl, arith, bit_and, bit_or, bit_xor, Option, Some, None, pos, mod-eq_of_lt}
 use Rattle.std.specs.Prelude.{IsTrue, IsSomeAnd}

@@ -1,4 +1,3 @@
--- helper: in no public contract
 -- Each number that a shift gives of a number and an amount of two facts is one of its row's.
 use Rattle.std.proofs.Common.{◌≡◌, ℕ, ◌*◌, ◌^◌, ◌<◌, Bool, true, false, ◌&&◌, ◌||◌, cond, nat_lt, ap, subst, arith, Option, Some, None, pos, ◌*ℤ◌}
 use Rattle.std.specs.Prelude.{nat_le}

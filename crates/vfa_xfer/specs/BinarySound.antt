@@ -1,4 +1,3 @@
--- helper: in no public contract
 -- The cell that a transfer gives of two cells holds of each result of values of which these hold.
 use Rattle.std.proofs.Common.{◌≡◌, ℕ, ◌+◌, ◌-◌, ◌^◌, ◌<◌, ◌≤◌, Bool, true, false, ◌&&◌, ◌||◌, cond, nat_eq, sym, ◌∙◌, ap, subst, refl, arith, Option, Some, None}
 use Rattle.std.specs.Option.{is_some}

@@ -1,4 +1,3 @@
--- helper: in no public contract
 -- Each number that a conversion gives is one of its row's.
 use Rattle.std.proofs.Common.{◌≡◌, ℕ, suc, ◌+◌, ◌-◌, ◌*◌, ◌%◌, ◌^◌, ◌<◌, ◌≤◌, Bool, true, false, not, ◌&&◌, ◌||◌, cond, refl, sym, ◌∙◌, ap, subst, arith, ◌⊎◌, inl, inr, Option, Some, None, pos, negsuc, ◌≤ℤ◌, ℤ, nat_lt, mod-eq_of_lt, pow_mono}
 use Rattle.std.specs.Prelude.{IsTrue, IsSomeAnd, int_le, int_lt}

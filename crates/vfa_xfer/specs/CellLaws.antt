@@ -1,4 +1,3 @@
--- helper: in no public contract
 -- The laws of cells: their joins, widenings, ranks, inclusions and restrictions.
 use Rattle.std.proofs.Common.{◌≡◌, ℕ, ◌+◌, ◌*◌, ◌%◌, ◌^◌, ◌<◌, ◌≤◌, ◌⊎◌, Bool, true, false, not, ◌&&◌, ◌||◌, inl, inr, refl, sym, ◌∙◌, ap, subst, arith, List, Option, Some, None}
 use Rattle.std.specs.Prelude.{IsTrue, IsSomeAnd}

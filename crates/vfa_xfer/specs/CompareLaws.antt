@@ -1,4 +1,3 @@
--- helper: in no public contract
 -- Each answer of a comparison of numbers is one of its cell's.
 use Rattle.std.proofs.Common.{◌≡◌, ℕ, ◌^◌, ◌<◌, ◌≤◌, Bool, true, false, not, ◌&&◌, ◌||◌, if◌then◌else◌, refl, sym, ◌∙◌, ap, subst, arith, inl, inr, Option, Some, None, pos}
 use Rattle.std.specs.Prelude.{int_le, int_lt}

@@ -1,4 +1,3 @@
--- helper: in no public contract
 -- Counts of bits, by what is known of a number.
 use Rattle.std.proofs.Common.{◌≡◌, ℕ, zero, suc, ◌+◌, ◌-◌, ◌%◌, ◌^◌, ◌<◌, ◌≤◌, min, Bool, true, false, if◌then◌else◌, nat_eq, nat_lt, refl, sym, ◌∙◌, ap, arith, inl, inr, add-one, mod-eq_of_lt}
 use Rattle.std.specs.Int.{bit_at}

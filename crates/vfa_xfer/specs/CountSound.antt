@@ -1,4 +1,3 @@
--- helper: in no public contract
 -- Each number that an intrinsic of one number gives is one of its row's.
 use Rattle.std.proofs.Common.{◌≡◌, ℕ, ◌-◌, ◌^◌, ◌<◌, ◌≤◌, Bool, true, false, not, ◌&&◌, ◌||◌, if◌then◌else◌, nat_eq, refl, sym, ◌∙◌, ap, subst, arith, inl, inr, Option, Some, None, pos, neg_ℤ, ◌≤ℤ◌, ◌<ℤ◌, ℤ}
 use Rattle.std.specs.Prelude.{IsTrue, IfSome, IsSomeAnd, int_le, int_lt, unsigned_abs}

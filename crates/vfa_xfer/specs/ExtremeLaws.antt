@@ -1,4 +1,3 @@
--- helper: in no public contract
 -- Each number that an intrinsic of two numbers gives is one of its row's.
 use Rattle.std.proofs.Common.{◌≡◌, ℕ, ◌^◌, ◌<◌, min, max, Bool, true, false, ◌&&◌, if◌then◌else◌, refl, sym, ◌∙◌, ap, subst, arith, ◌⊎◌, inl, inr, Option, Some, None}
 use Rattle.std.specs.Prelude.{IsTrue, IsSomeAnd}

@@ -1,4 +1,3 @@
--- helper: in no public contract
 -- The laws of the domain of facts, but for those of the transfer.
 use Rattle.std.proofs.Common.{◌≡◌, ℕ, ◌+◌, ◌-◌, ◌%◌, ◌^◌, ◌<◌, ◌≤◌, ◌⊎◌, Bool, true, false, inl, inr, refl, sym, ◌∙◌, ap, subst, arith, lit<, lit≤, List, Option, Some, None, bit_and, bit_xor}
 use Rattle.std.specs.Prelude.{IsTrue, IsSomeAnd, ◌↔◌}

@@ -1,4 +1,3 @@
--- helper: in no public contract
 -- The lowest known bits of known bits, and the numbers that agree with them.
 use Rattle.std.proofs.Common.{◌≡◌, ℕ, zero, suc, ◌+◌, ◌-◌, ◌*◌, ◌%◌, ◌/◌, ◌^◌, ◌<◌, ◌≤◌, ◌⊎◌, false, ◌||◌, inl, inr, refl, sym, ◌∙◌, ap, arith, Some, bit_or, bit_xor, nat_eq}
 use Rattle.std.proofs.Math.Nat.{mod-mod}

@@ -1,4 +1,3 @@
--- helper: in no public contract
 -- What is known of a number of a fact.
 use Rattle.std.proofs.Common.{◌≡◌, ◌≢◌, ℕ, ◌^◌, ◌<◌, ◌≤◌, true, sym, ap, refl, Option, Some, None}
 use Rattle.std.specs.Prelude.{IsTrue, IsSomeAnd, IfSome}

@@ -1,4 +1,3 @@
--- helper: in no public contract
 -- Each pair that an intrinsic with overflow gives is held by its cells.
 use Rattle.std.proofs.Common.{◌≡◌, ℕ, Bool, true, false, not, ◌&&◌, refl, sym, ◌∙◌, ap, subst, Option, Some, None, pos}
 use Rattle.std.specs.Prelude.{IfSome}

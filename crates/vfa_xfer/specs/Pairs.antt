@@ -1,4 +1,3 @@
--- helper: in no public contract
 -- Answers of a comparison over pairs, by pairs that show them.
 use Rattle.std.proofs.Common.{◌≡◌, ℕ, ◌^◌, ◌<◌, Bool, true, false, ◌&&◌, refl, sym, ◌∙◌, ap}
 use Rattle.std.proofs.lemmas.Bool.{and_parts, and_from}

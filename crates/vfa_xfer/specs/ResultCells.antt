@@ -1,4 +1,3 @@
--- helper: in no public contract
 -- What each transfer gives of cells is a cell, of the width of the result.
 use Rattle.std.proofs.Common.{◌≡◌, ℕ, ◌-◌, ◌^◌, ◌<◌, Bool, true, false, not, ◌&&◌, ◌||◌, if◌then◌else◌, nat_eq, refl, sym, subst, arith, lit≤, Option, Some, None}
 use Rattle.std.specs.Option.{is_some}

@@ -1,4 +1,3 @@
--- helper: in no public contract
 -- The facts of rows.
 use Rattle.std.proofs.Common.{◌≡◌, ℕ, ◌^◌, ◌<◌, true, Option, Some}
 use Rattle.vfa_wrap.specs.Arc.{IsArc, in_span}

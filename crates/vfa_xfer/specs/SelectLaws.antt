@@ -1,4 +1,3 @@
--- helper: in no public contract
 -- What is chosen is held by the cells of `select`, `freeze`, `extractvalue` and `assume`.
 use Rattle.std.proofs.Common.{◌≡◌, ℕ, ◌-◌, ◌^◌, ◌<◌, Bool, true, false, ◌&&◌, if◌then◌else◌, nat_eq, inl, inr, refl, sym, ◌∙◌, ap, subst, arith, Option, Some, None}
 use Rattle.std.specs.Option.{is_some}

@@ -1,4 +1,3 @@
--- helper: in no public contract
 -- Operations that give poison of a poison operand, and of numbers a number or poison: what is needed so that a cell holds of
 -- all that they give.
 use Rattle.std.proofs.Common.{◌≡◌, ℕ, Bool, true, false, ◌&&◌, refl, sym, ◌∙◌, ap, subst, Option, Some, None}

@@ -1,4 +1,3 @@
--- helper: in no public contract
 -- The laws of the transfer, and with them all laws of the domain of facts.
 use Rattle.std.proofs.Common.{◌≡◌, ℕ, Bool, true, false, sym, ◌∙◌, ap, subst, refl, Option, Some, None, nat_eq, if◌then◌else◌}
 use Rattle.vfa_ir.specs.declared.operations.Bin.{Bin}

@@ -1,4 +1,3 @@
--- helper: in no public contract
 -- The laws of the widening of cells: what it covers, that it settles, and that ranks fall.
 use Rattle.std.proofs.Common.{◌≡◌, ℕ, ◌+◌, ◌-◌, ◌*◌, ◌%◌, ◌^◌, ◌<◌, ◌≤◌, ◌⊎◌, Bool, true, false, not, ◌||◌, inl, inr, refl, sym, ◌∙◌, ap, subst, arith, List, Option, Some, None, nat_eq, nat_lt, bit_xor, if◌then◌else◌}
 use Rattle.std.proofs.lemmas.Bool.{cases_Bool, cases_lt, true≢false, eq-eqb, eqb-true, and_parts, and_from, lt-ltb, le-ltb, or_right}

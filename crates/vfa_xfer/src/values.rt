@@ -74,3 +74,6 @@ impl Values for AnyFact {
         fact_calls::rank(self)
     }
 }
+
+#[cfg(test)]
+mod tests;
