@@ -1,11 +1,11 @@
 -- Inclusions of the numbers of cells.
-use Rattle.std.proofs.Common.{◌≡◌, ℕ, ◌^◌, ◌<◌, Bool, true, false, Option, Some, None, sym, ◌∙◌, ap, subst, refl}
+use Rattle.std.proofs.Common.{◌≡◌, ℕ, ◌^◌, ◌<◌, true, false, Option, Some, None, sym, ◌∙◌, ap, subst}
 use Rattle.std.proofs.lemmas.Bool.{true≢false}
 use Rattle.vfa_dom.specs.Sets.{includes}
 use Rattle.vfa_dom.proofs.SetSearches.{includes_from, includes_fails}
 use Rattle.vfa_fact.specs.declared.numbers.Numbers.{Numbers}
 use Rattle.vfa_fact.specs.Cells.{CellValue, IsCell, in_option, in_cell}
-use Rattle.vfa_fact.specs.Fact.{in_numbers, IsFact}
+use Rattle.vfa_fact.specs.Fact.{in_numbers}
 use Rattle.vfa_fact.proofs.CellNumbers.{none_in, some_in}
 
 -- a cell without numbers is included in each

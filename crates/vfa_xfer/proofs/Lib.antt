@@ -1,6 +1,9 @@
+pub mod CastRows
+pub mod CellSets
 pub mod ConstantResults
 pub mod Inclusions
 pub mod LowMasks
+pub mod OneSign
 pub mod Ranked
 pub mod RowTests
 pub mod RowValues

@@ -1,15 +1,14 @@
 -- The lowest known bits, as the code makes them.
-use Rattle.std.proofs.Common.{◌≡◌, ℕ, ◌%◌, ◌^◌, ◌<◌, ◌≤◌, Bool, ◌&&◌, true, false, refl, sym, ◌∙◌, ap, subst, Option, bit_or}
+use Rattle.std.proofs.Common.{◌≡◌, ℕ, ◌%◌, ◌^◌, ◌<◌, ◌≤◌, Bool, ◌&&◌, true, false, refl, sym, ◌∙◌, ap, subst, bit_or}
 use Rattle.std.specs.Int.{w128, trailing_ones}
 use Rattle.std.proofs.lemmas.Nat.{or_lt}
 use Rattle.vfa_dom.specs.Best.{Masks}
 use Rattle.vfa_dom.specs.Sets.{meet}
-use Rattle.vfa_known.specs.Cube.{IsCube, in_masks}
+use Rattle.vfa_known.specs.Cube.{IsCube}
 use Rattle.vfa_known.specs.Product.{run_of, is_known}
 use Rattle.vfa_known.proofs.Products.{ones_run, known_run_is}
 use Rattle.vfa_wrap.specs.Arc.{Span, IsArc, in_span}
-use Rattle.vfa_fact.specs.declared.numbers.Numbers.{Numbers}
-use Rattle.vfa_fact.specs.Sharp.{sharp_of, sharp_in}
+use Rattle.vfa_fact.specs.Sharp.{sharp_in}
 use Rattle.vfa_fact.proofs.SharpSets.{sharp_alike}
 use Rattle.vfa_xfer.specs.LowBits.{low_cube}
 use Rattle.vfa_xfer.specs.Widening.{low_masks}

@@ -1,5 +1,5 @@
 -- Ranks, as the code makes them.
-use Rattle.std.proofs.Common.{◌≡◌, ℕ, ◌+◌, ◌-◌, ◌*◌, ◌/◌, ◌%◌, ◌^◌, ◌<◌, ◌≤◌, Bool, true, false, not, sym, ◌∙◌, ap, refl, arith, nat_eq, bit_or, bit_xor, Option, Some, None}
+use Rattle.std.proofs.Common.{◌≡◌, ℕ, ◌+◌, ◌-◌, ◌*◌, ◌/◌, ◌%◌, ◌^◌, ◌≤◌, Bool, false, not, sym, ◌∙◌, ap, refl, arith, nat_eq, bit_or, bit_xor, Option, Some, None}
 use Rattle.std.specs.Prelude.{count_ones}
 use Rattle.std.specs.Int.{w128, trailing_ones}
 use Rattle.vfa_word.specs.Numbers.{IsWidth}

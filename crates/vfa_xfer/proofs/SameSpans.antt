@@ -1,5 +1,5 @@
 -- Comparisons of arcs by their ends.
-use Rattle.std.proofs.Common.{◌≡◌, ℕ, ◌∙◌, sym, ap, Bool, true, false, ◌&&◌, nat_eq}
+use Rattle.std.proofs.Common.{◌≡◌, ℕ, ◌∙◌, sym, ap, false, ◌&&◌, nat_eq}
 use Rattle.std.proofs.lemmas.Bool.{eq-eqb, ne_eqb}
 use Rattle.vfa_wrap.specs.Arc.{Span}
 use Rattle.vfa_xfer.specs.Widening.{is_same_span}

@@ -1,16 +1,14 @@
 -- The numbers that a restriction wants, as the code tests them.
-use Rattle.std.proofs.Common.{◌≡◌, ℕ, ◌+◌, ◌-◌, ◌*◌, ◌%◌, ◌^◌, ◌<◌, ◌≤◌, ◌⊎◌, min, max, mod-eq_of_lt, Bool, true, false, ◌&&◌, inl, inr, sym, ◌∙◌, ap, subst, refl, arith, Option, Some, None, nat_eq, bit_and, bit_or, bit_xor, pos, ◌-ℤ◌}
+use Rattle.std.proofs.Common.{◌≡◌, ℕ, ◌+◌, ◌-◌, ◌%◌, ◌^◌, ◌<◌, min, mod-eq_of_lt, Bool, true, ◌&&◌, inl, inr, sym, ◌∙◌, ap, subst, arith, bit_and, bit_xor, pos, ◌-ℤ◌}
 use Rattle.std.specs.Int.{bit_at}
 use Rattle.std.specs.Prelude.{IsTrue}
-use Rattle.std.specs.Option.{option_map}
-use Rattle.std.proofs.lemmas.Bool.{cases_Bool, eq-eqb, eqb-true, true≢false}
+use Rattle.std.proofs.lemmas.Bool.{cases_Bool, eq-eqb, eqb-true}
 use Rattle.std.proofs.lemmas.Nat.{and_le_l, xor_lt, mod_below, pow_pos}
 use Rattle.std.proofs.lemmas.Nat.Bits.{bit_at-lt, bit_at_and, bit_at_xor, same_from_bits}
 use Rattle.vfa_word.specs.Numbers.{wrap}
 use Rattle.vfa_word.proofs.Wrapping.{wrap_difference_is}
 use Rattle.vfa_dom.specs.Best.{Masks}
 use Rattle.vfa_dom.specs.Sets.{meet}
-use Rattle.vfa_dom.proofs.Bests.{digit_cases}
 use Rattle.vfa_known.specs.Cube.{IsCube, InCube, in_masks}
 use Rattle.vfa_known.specs.Known.{masks_of, in_known}
 use Rattle.vfa_known.proofs.Cubes.{apart_from_bits, in_masks_from, in_masks_at}

@@ -1,6 +1,6 @@
 -- A widening, as the code makes it.
-use Rattle.std.proofs.Common.{◌≡◌, ℕ, ◌<◌, ◌≤◌, Bool, true, false, ◌||◌, ◌&&◌, List, Option, Some, None, sym, ◌∙◌, ap, refl, nat_lt, arith}
-use Rattle.std.specs.Option.{option_map, is_some}
+use Rattle.std.proofs.Common.{◌≡◌, ℕ, ◌≤◌, Bool, true, false, ◌||◌, ◌&&◌, List, Option, Some, None, sym, ◌∙◌, ap, refl, nat_lt, arith}
+use Rattle.std.specs.Option.{is_some}
 use Rattle.std.proofs.lemmas.Bool.{le-ltb}
 use Rattle.vfa_wrap.specs.Arc.{Span}
 use Rattle.vfa_fact.specs.declared.numbers.Numbers.{Numbers}

@@ -1,15 +1,14 @@
 -- helper: in no public contract
 -- The laws of cells: their joins, widenings, ranks, inclusions and restrictions.
-use Rattle.std.proofs.Common.{◌≡◌, ℕ, ◌+◌, ◌-◌, ◌*◌, ◌%◌, ◌^◌, ◌<◌, ◌≤◌, ◌⊎◌, Bool, true, false, not, ◌&&◌, ◌||◌, inl, inr, refl, sym, ◌∙◌, ap, subst, arith, List, Option, Some, None, bit_and}
-use Rattle.std.specs.Prelude.{IsTrue, IsSomeAnd, IfSome}
-use Rattle.std.specs.Option.{option_map, ForSome}
-use Rattle.std.proofs.lemmas.Bool.{cases_Bool, true≢false, and_parts}
+use Rattle.std.proofs.Common.{◌≡◌, ℕ, ◌+◌, ◌*◌, ◌%◌, ◌^◌, ◌<◌, ◌≤◌, ◌⊎◌, Bool, true, false, not, ◌&&◌, ◌||◌, inl, inr, refl, sym, ◌∙◌, ap, subst, arith, List, Option, Some, None}
+use Rattle.std.specs.Prelude.{IsTrue, IsSomeAnd}
+use Rattle.std.specs.Option.{option_map}
+use Rattle.std.proofs.lemmas.Bool.{true≢false, and_parts}
 use Rattle.vfa_word.specs.Numbers.{IsWidth}
 use Rattle.vfa_dom.specs.Search.{flag}
 use Rattle.vfa_dom.specs.Sets.{meet, includes}
 use Rattle.vfa_dom.proofs.SetSearches.{meet_from, includes_tells}
 use Rattle.vfa_ir.specs.declared.operations.Pred.{Pred}
-use Rattle.vfa_wrap.specs.Arc.{Span, in_span}
 use Rattle.vfa_fact.specs.declared.numbers.Numbers.{Numbers}
 use Rattle.vfa_fact.specs.Cells.{CellValue, IsCell, in_option, in_cell, joined_numbers, joined_cells, marked, compared_numbers, compared_cells}
 use Rattle.vfa_fact.specs.Compare.{satisfies, partners, restrict_of}
@@ -20,7 +19,7 @@ use Rattle.vfa_fact.proofs.JoinedCells.{AreFacts, both_again, both_facts, both_l
 use Rattle.vfa_fact.proofs.SharpArcs.{sharp_in_fact, sharp_in_has}
 use Rattle.vfa_values.specs.Laws.{first_falling_round}
 use Rattle.vfa_xfer.specs.LowBits.{known_most}
-use Rattle.vfa_xfer.specs.Ranks.{known_count, low_span, fact_rank, rank_of, cell_rank}
+use Rattle.vfa_xfer.specs.Ranks.{low_span, fact_rank, rank_of, cell_rank}
 use Rattle.vfa_xfer.specs.Restrictions.{kept_of, kept_numbers, kept_cell, lands_in, moved_numbers, cell_moved}
 use Rattle.vfa_xfer.specs.Widening.{is_same_span, widened_fact, widened_numbers, widened_cells}
 use Rattle.vfa_xfer.specs.WideningLaws.{Within, widened_is_fact, widened_has, widened_some, widened_same, fact_stays, fact_falls}

@@ -1,13 +1,12 @@
 -- helper: in no public contract
 -- The laws of the domain of facts, but for those of the transfer.
-use Rattle.std.proofs.Common.{◌≡◌, ℕ, ◌+◌, ◌-◌, ◌*◌, ◌%◌, ◌^◌, ◌<◌, ◌≤◌, ◌⊎◌, Bool, true, false, not, ◌&&◌, ◌||◌, inl, inr, refl, sym, ◌∙◌, ap, subst, arith, lit<, lit≤, List, Option, Some, None, bit_and, bit_xor}
+use Rattle.std.proofs.Common.{◌≡◌, ℕ, ◌+◌, ◌-◌, ◌%◌, ◌^◌, ◌<◌, ◌≤◌, ◌⊎◌, Bool, true, false, inl, inr, refl, sym, ◌∙◌, ap, subst, arith, lit<, lit≤, List, Option, Some, None, bit_and, bit_xor}
 use Rattle.std.specs.Prelude.{IsTrue, IsSomeAnd, ◌↔◌}
 use Rattle.std.specs.Option.{option_map, ForSome}
 use Rattle.std.proofs.lemmas.Bool.{true≢false, and_parts, eq-eqb}
 use Rattle.std.proofs.lemmas.Nat.{pow_pos}
 use Rattle.vfa_word.specs.Numbers.{IsWidth}
 use Rattle.vfa_word.specs.Operations.{equal, unsigned_less, signed_less}
-use Rattle.vfa_dom.specs.Sets.{single_of}
 use Rattle.vfa_dom.proofs.SetSearches.{single_of_tells}
 use Rattle.vfa_known.proofs.Members.{turned_sums}
 use Rattle.vfa_ir.specs.declared.operations.Op.{Op}
@@ -16,7 +15,6 @@ use Rattle.vfa_ir.specs.declared.operations.Ty.{Ty}
 use Rattle.vfa_ir.specs.Predicates.{by_order}
 use Rattle.vfa_ir.specs.Printable.{op_type}
 use Rattle.vfa_fact.specs.declared.cell.Parts.{Parts}
-use Rattle.vfa_fact.specs.declared.numbers.Numbers.{Numbers}
 use Rattle.vfa_fact.specs.Cells.{CellValue, IsCell, in_option, in_cell, joined_cells, only_number, all_numbers, cell_of, poison_cell, compared_cells}
 use Rattle.vfa_fact.specs.Compare.{satisfies}
 use Rattle.vfa_fact.specs.Fact.{in_numbers, IsFact}
@@ -27,14 +25,13 @@ use Rattle.vfa_mean.specs.Meaning.{done, Allowed, Gave}
 use Rattle.vfa_mean.specs.Operands.{IsOperation}
 use Rattle.vfa_mean.specs.Rows.{bit_of}
 use Rattle.vfa_mean.specs.Values.{IsValueOf}
-use Rattle.vfa_values.specs.Conditions.{width_of, IsType, IsOf, AreLandmarks}
+use Rattle.vfa_values.specs.Conditions.{IsType, IsOf}
 use Rattle.vfa_values.specs.Laws.{AreTyped, AreSound, AreSteady, IsLawful, first_falling_round}
 use Rattle.vfa_values.specs.Operands.{EachOperand}
 use Rattle.vfa_xfer.specs.declared.any_fact.AnyFact.{AnyFact}
-use Rattle.vfa_xfer.specs.AnyFacts.{type_of_parts, fact_type, AreCells, IsAnyFact, CellHolds, PartsHold, HoldsOf}
+use Rattle.vfa_xfer.specs.AnyFacts.{type_of_parts, fact_type, AreCells, IsAnyFact, PartsHold, HoldsOf}
 use Rattle.vfa_xfer.specs.CellLaws.{Covers, join_covers_first, join_covers_second, widen_covers_first, widen_covers_second, includes_covers, widened_cell, join_itself, widen_itself, cell_stays, cell_falls, cell_rank_most, kept_part, kept_cell_has, moved_part, moved_cell_has, compared_part}
-use Rattle.vfa_xfer.specs.FactAnswers.{one_fact, two_facts, literal_fact, any_cell, any_of, poison_of, joined_parts, joined_facts, bit_landmarks, widened_parts, widened_facts, includes_cell, includes_parts, includes_fact, compared_parts, compared_facts, parts_with_bits, fact_with_bits, moved_parts, moved_fact, single_of_parts, single_of_fact, rank_of_parts, rank_of_fact, answers_with}
-use Rattle.vfa_xfer.specs.Constants.{single_in}
+use Rattle.vfa_xfer.specs.FactAnswers.{one_fact, literal_fact, any_cell, any_of, poison_of, joined_parts, bit_landmarks, widened_parts, includes_cell, includes_parts, compared_parts, parts_with_bits, moved_parts, single_of_parts, rank_of_parts, answers_with}
 use Rattle.vfa_xfer.specs.Ranks.{cell_rank}
 use Rattle.vfa_xfer.specs.Restrictions.{agrees_under, cell_with_bits, cell_moved}
 use Rattle.vfa_xfer.specs.Widening.{widened_cells}
@@ -45,13 +42,13 @@ OfType t f = IsOf fact_type IsAnyFact t f
 
 -- ---- types
 
-int_width : (v w : ℕ) → Ty.Int v ≡ Ty.Int w → v ≡ w
+pub int_width : (v w : ℕ) → Ty.Int v ≡ Ty.Int w → v ≡ w
 int_width v w e = cc
 
 pair_width : (v w : ℕ) → Ty.Pair v ≡ Ty.Pair w → v ≡ w
 pair_width v w e = cc
 
-int_apart : (v w : ℕ) → Ty.Int v ≡ Ty.Pair w → ⊥
+pub int_apart : (v w : ℕ) → Ty.Int v ≡ Ty.Pair w → ⊥
 int_apart v w e = cc
 
 bit_width : IsWidth 1

@@ -1,6 +1,6 @@
 -- helper: in no public contract
 -- The lowest known bits of known bits, and the numbers that agree with them.
-use Rattle.std.proofs.Common.{◌≡◌, ℕ, zero, suc, ◌+◌, ◌-◌, ◌*◌, ◌%◌, ◌/◌, ◌^◌, ◌<◌, ◌≤◌, ◌⊎◌, Bool, true, false, ◌||◌, inl, inr, refl, sym, ◌∙◌, ap, subst, arith, Option, Some, bit_or, bit_xor, nat_eq}
+use Rattle.std.proofs.Common.{◌≡◌, ℕ, zero, suc, ◌+◌, ◌-◌, ◌*◌, ◌%◌, ◌/◌, ◌^◌, ◌<◌, ◌≤◌, ◌⊎◌, false, ◌||◌, inl, inr, refl, sym, ◌∙◌, ap, arith, Some, bit_or, bit_xor, nat_eq}
 use Rattle.std.proofs.Math.Nat.{mod-mod}
 use Rattle.std.specs.Prelude.{count_ones}
 use Rattle.std.specs.Int.{bit_at}
@@ -8,7 +8,7 @@ use Rattle.std.proofs.lemmas.Bool.{cases_lt}
 use Rattle.std.proofs.lemmas.Nat.{pow_pos, mod_below, or_lt, ones-le, ones_cat, ones_le_self, zero_from_ones}
 use Rattle.std.proofs.lemmas.Nat.Bits.{bit_at-lt, bit_at_or, bit_at_above, bit_at_lowest, bit_at-suc, same_from_bits}
 use Rattle.vfa_dom.specs.Best.{Masks}
-use Rattle.vfa_dom.specs.Search.{least_below, greatest_below}
+use Rattle.vfa_dom.specs.Search.{greatest_below}
 use Rattle.vfa_dom.specs.Sets.{meet}
 use Rattle.vfa_dom.proofs.Bests.{digit_cases}
 use Rattle.vfa_dom.proofs.ResultSets.{IsBest-alike}
@@ -17,10 +17,10 @@ use Rattle.vfa_known.specs.Product.{run_of, is_known}
 use Rattle.vfa_known.proofs.Cubes.{apart_at, apart_from_bits, in_masks_from, in_masks_at, cube_best}
 use Rattle.vfa_known.proofs.Places.{bit_at_mod}
 use Rattle.vfa_known.proofs.Products.{run_is, run_found}
-use Rattle.vfa_wrap.specs.Arc.{Span, in_span, full_span}
+use Rattle.vfa_wrap.specs.Arc.{in_span, full_span}
 use Rattle.vfa_wrap.proofs.Circle.{in_full}
 use Rattle.vfa_fact.specs.declared.numbers.Numbers.{Numbers}
-use Rattle.vfa_fact.specs.Sharp.{sharp_of, sharp_in}
+use Rattle.vfa_fact.specs.Sharp.{sharp_in}
 use Rattle.vfa_fact.proofs.FactEnds.{cube_first, cube_last, least_first, greatest_last}
 use Rattle.vfa_fact.proofs.SharpSets.{Member, sharp_is, sharp_alike}
 use Rattle.vfa_xfer.specs.Ranks.{known_count, low_span}

@@ -7,7 +7,7 @@ use Rattle.vfa_known.specs.Product.{run_of, is_known}
 use Rattle.vfa_wrap.specs.Arc.{Span, full_span}
 use Rattle.vfa_wrap.specs.Rounding.{rounded_out}
 use Rattle.vfa_fact.specs.declared.numbers.Numbers.{Numbers}
-use Rattle.vfa_fact.specs.Cells.{CellValue, joined_numbers, joined_cells}
+use Rattle.vfa_fact.specs.Cells.{CellValue, joined_numbers}
 use Rattle.vfa_fact.specs.Fact.{masks_in, span_in}
 use Rattle.vfa_fact.specs.Sharp.{sharp_in}
 use Rattle.vfa_values.specs.Laws.{first_falling_round}

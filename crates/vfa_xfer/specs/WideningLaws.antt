@@ -1,30 +1,26 @@
 -- helper: in no public contract
 -- The laws of the widening of cells: what it covers, that it settles, and that ranks fall.
-use Rattle.std.proofs.Common.{◌≡◌, ℕ, ◌+◌, ◌-◌, ◌*◌, ◌%◌, ◌^◌, ◌<◌, ◌≤◌, ◌⊎◌, Bool, true, false, not, ◌&&◌, ◌||◌, inl, inr, refl, sym, ◌∙◌, ap, subst, arith, List, Option, Some, None, nat_eq, nat_lt, nat_le, bit_xor, if◌then◌else◌}
-use Rattle.std.specs.Int.{bit_at}
-use Rattle.std.proofs.lemmas.Bool.{cases_Bool, cases_lt, true≢false, eq-eqb, eqb-true, and_parts, and_from, le-leb, lt-leb, lt-ltb, le-ltb, ltb-true, or_left, or_right}
-use Rattle.std.proofs.lemmas.Bool.Decides.{nat_tests}
+use Rattle.std.proofs.Common.{◌≡◌, ℕ, ◌+◌, ◌-◌, ◌*◌, ◌%◌, ◌^◌, ◌<◌, ◌≤◌, ◌⊎◌, Bool, true, false, not, ◌||◌, inl, inr, refl, sym, ◌∙◌, ap, subst, arith, List, Option, Some, None, nat_eq, nat_lt, bit_xor, if◌then◌else◌}
+use Rattle.std.proofs.lemmas.Bool.{cases_Bool, cases_lt, true≢false, eq-eqb, eqb-true, and_parts, and_from, lt-ltb, le-ltb, or_right}
 use Rattle.std.proofs.lemmas.Nat.{pow_pos}
 use Rattle.std.proofs.lemmas.Nat.Bits.{bit_at_above}
 use Rattle.vfa_dom.specs.Best.{Masks}
 use Rattle.vfa_dom.specs.Search.{flag}
 use Rattle.vfa_dom.specs.Sets.{meet}
 use Rattle.vfa_dom.proofs.Bests.{digit_cases}
-use Rattle.vfa_dom.proofs.SetSearches.{meet_from, meet_parts}
-use Rattle.vfa_known.specs.Cube.{IsCube, InCube, in_masks}
+use Rattle.vfa_dom.proofs.SetSearches.{meet_from}
+use Rattle.vfa_known.specs.Cube.{IsCube, in_masks}
 use Rattle.vfa_known.proofs.Cubes.{in_masks_from, in_masks_at}
-use Rattle.vfa_wrap.specs.Arc.{Span, IsArc, steps, in_span, full_span, arc_from}
+use Rattle.vfa_wrap.specs.Arc.{Span, IsArc, steps, in_span, full_span}
 use Rattle.vfa_wrap.specs.Rounding.{fall_of, rise_of, rounded_out}
-use Rattle.vfa_wrap.proofs.ArcSets.{first_in, last_in}
-use Rattle.vfa_wrap.proofs.Circle.{steps_is, ahead, in_from, in_full, full_is_arc, part_is_arc, arc_ahead_part}
+use Rattle.vfa_wrap.proofs.Circle.{steps_is, in_from, in_full, full_is_arc, part_is_arc, arc_ahead_part}
 use Rattle.vfa_wrap.proofs.Marks.{rounded_full, rounded_part, rounded_holds}
 use Rattle.vfa_fact.specs.declared.numbers.Numbers.{Numbers}
 use Rattle.vfa_fact.specs.Cells.{in_option}
 use Rattle.vfa_fact.specs.Fact.{masks_in, span_in, in_numbers, in_numbers_fits, IsFact}
-use Rattle.vfa_fact.specs.Sharp.{sharp_in}
 use Rattle.vfa_fact.proofs.Facts.{numbers_parts, fact_best, fact_cube}
 use Rattle.vfa_fact.proofs.SharpArcs.{sharp_in_fact, sharp_in_has}
-use Rattle.vfa_fact.proofs.SharpSets.{Member, sharp_tells}
+use Rattle.vfa_fact.proofs.SharpSets.{sharp_tells}
 use Rattle.vfa_values.specs.Laws.{first_falling_round}
 use Rattle.vfa_xfer.specs.LowBits.{IsWeaker, weaker_through, low_weaker, weaker_in, low_cube, low_again, cube_numbers, low_all, low_span_is, weaker_counts}
 use Rattle.vfa_xfer.specs.Ranks.{known_count, low_span, fact_rank}

@@ -18,7 +18,7 @@ use vfa_ir::{Pred, Ty};
 const BIT_LANDMARKS: [u128; 2] = [0, 1];
 
 /// The fact of a number.
-fn of_cell(cell: Cell) -> AnyFact
+pub(crate) fn of_cell(cell: Cell) -> AnyFact
     ensures { result ≡ one_fact cell }
 {
     AnyFact {
