@@ -1,0 +1,12 @@
+pub mod CastRows
+pub mod CellSets
+pub mod ConstantResults
+pub mod Inclusions
+pub mod LowMasks
+pub mod OneSign
+pub mod Ranked
+pub mod RowTests
+pub mod RowValues
+pub mod SameSpans
+pub mod Wanted
+pub mod Widened
