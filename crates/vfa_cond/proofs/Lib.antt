@@ -1,0 +1,3 @@
+mod Entries
+pub mod Fitting
+pub mod Keeping

@@ -1,0 +1,13 @@
+//! States of an analysis, each a fact for each of some names and the names whose equations are live, and their restriction
+//! by conditions, through live equations to a depth of four (LLVM's LazyValueInfo).
+#![tactic(auto)]
+
+mod consequence;
+mod equations;
+mod narrowing;
+mod predicates;
+mod state;
+mod want;
+
+pub use state::State;
+pub use want::Want;
