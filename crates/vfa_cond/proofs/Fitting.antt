@@ -48,7 +48,7 @@ and_second false b h = absurd cc
 written_width : (w : ℕ) → IsWrittenWidth w → IsWidth w
 written_width w h = record { least = h.least; most = h.most }
 
-bit_width : IsWidth 1
+pub bit_width : IsWidth 1
 bit_width = record { least = omega arith; most = lit≤ tt }
 
 abbrev AreNumberOperands : Function → ℕ → Operand → Operand → Type 0

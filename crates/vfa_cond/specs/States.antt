@@ -1,6 +1,8 @@
 -- States: what is known of the names of a function at a place. The code keeps a state as the names that have a fact, in
 -- ascending order, and a mark for each name of the function.
-use Rattle.std.specs.Prelude.{suc, ◌≡◌, ◌<◌, ◌≤◌, ℕ, Bool, false, nat_eq, if◌then◌else◌, Option, Some, None, List, [], ◌∷◌, length, unwrap_or, slice_get, ⊤}
+use Rattle.std.specs.Prelude.{suc, ◌≡◌, ◌<◌, ◌≤◌, ℕ, Bool, false, nat_eq, if◌then◌else◌, Option, Some, None, List, [], ◌∷◌, length, map, unwrap_or, slice_get, All, ⊤}
+use Rattle.std.specs.List.{IsDistinct, list_any}
+use Rattle.vfa_ir.specs.declared.operations.ValueId.{ValueId}
 use Rattle.vfa_cond.specs.declared.state.Entry.{Entry}
 
 -- a fact for each of some names, and which names have live equations
@@ -46,6 +48,25 @@ with_fact s v fact = record s { fact = λ u. if nat_eq u v then fact else s.fact
 -- the state in which the name's equation is live, or is not
 abbrev pub with_live : {V : Type 0} → AbstractState V → ℕ → Bool → AbstractState V
 with_live s v live = record s { live = λ u. if nat_eq u v then live else s.live u }
+
+-- ---- a state that is given by lists
+
+-- the fact that stands with the name
+abbrev pub given_fact : {V : Type 0} → List (ValueId × V) → ℕ → Option V
+given_fact [] v = None
+given_fact (p ∷ rest) v = if nat_eq p.0.0 v then Some p.1 else given_fact rest v
+
+abbrev pub is_given : List ValueId → ℕ → Bool
+is_given names v = list_any (λ u. nat_eq u.0 v) names
+
+-- the state with these facts and these live equations
+abbrev pub given : {V : Type 0} → List (ValueId × V) → List ValueId → AbstractState V
+given facts live = record { fact = given_fact facts; live = is_given live }
+
+-- the names differ, and are below the number of names
+pub record AreGiven {V : Type 0} (names : ℕ) (facts : List (ValueId × V)) : Type 0 where
+  pub distinct : IsDistinct nat_eq (map (λ p. p.0.0) facts)
+  pub range : All (λ p. p.0.0 < names) facts
 
 -- the names stand in ascending order, each from `low` on and below `high`
 abbrev pub Ascends : {V : Type 0} → ℕ → ℕ → List (Entry V) → Type 0

@@ -1,12 +1,14 @@
 //! Restriction of states by conditions.
 
-ghost use Rattle.std.specs.Prelude.{◌≡◌, ◌<◌, IsTrue};
+ghost use Rattle.std.specs.Prelude.{◌≡◌, IsTrue};
 ghost use Rattle.vfa_ir.specs.declared.operations.Ty.TheVariants.{Int};
 ghost use Rattle.vfa_mean.specs.Outcomes.{type_of};
-ghost use Rattle.vfa_values.specs.Conditions.{IsInteger, IsOf};
+ghost use Rattle.vfa_mean.specs.Values.{Env, operand_value};
+ghost use Rattle.vfa_values.specs.Conditions.{IsInteger, IsOf, width_of};
 ghost use Rattle.vfa_cond.specs.Conditions.{HasTypedEquations, AreFacts, IsNumberOperand, FitsConsequence};
 ghost use Rattle.vfa_cond.specs.Narrowing.{Becomes, deepest, narrowed, narrowed_operand, narrowed_both, operand_fact, held, carried_out, followed};
 ghost use Rattle.vfa_cond.specs.States.{known, KeepsRoom};
+ghost use Rattle.vfa_cond.specs.Truth.{IsTrueState, IsWantedValue, HoldsBetween};
 ghost use Rattle.vfa_cond.specs.Wants.{IsWantFor};
 
 use crate::consequence::{Consequence, consequence_of};
@@ -31,6 +33,48 @@ impl<V: Values> State<V> {
             Operand::Literal(bits) => Some(V::literal(width, bits)),
             Operand::Poison => Some(V::poison(Ty::Int(width))),
         }
+    }
+
+    /// Narrows the name to the wanted numbers, and through its live equation the operands that they depend on, to a depth of
+    /// four equations. A yes means that the state is the narrowed one; a no that it is met by no values any more, and then it
+    /// is to be dropped. A name without a fact is left alone.
+    ///
+    /// The state has facts of the types of their names, the name is of an integer type, and so is what is wanted.
+    ///
+    /// Where the state is true of the values that the names have, and the name's value is a wanted number, the answer is yes
+    /// and the new state is true of them too.
+    pub fn narrow(&mut self, f: &Function, v: ValueId, want: &Want<V>) -> bool
+        requires function { HasTypedEquations f.now }
+        requires facts { AreFacts V.ty V.proper f.now (known self.old) }
+        requires integer { IsInteger (type_of f.now v) }
+        requires wanted { IsWantFor V.ty V.proper (type_of f.now v) want.now }
+        ensures becomes { Becomes (narrowed V.answers f.now deepest v.0 want.now (known self.old)) result (known self.new) }
+        ensures truth { (env : Env) → IsTrueState V.holds f.now (known self.old) env →
+            IsWantedValue V.holds (width_of (type_of f.now v)) want.now (env v.0) → IsTrue result × IsTrueState V.holds f.now (known self.new) env }
+        ensures facts { IsTrue result → AreFacts V.ty V.proper f.now (known self.new) }
+        ensures room { KeepsRoom self.old self.new }
+    {
+        self.narrow_within(f, v, want, DEEPEST)
+    }
+
+    /// Narrows both operands, which are of type `iN`, N being `width`, so that the predicate may hold of them: each by the fact
+    /// that the other one had before, and as `narrow` does. Where one is a name without a fact nothing changes. The answer is
+    /// that of `narrow`.
+    ///
+    /// Where the state is true of the values that the names have, and the operands are numbers of which the predicate holds,
+    /// the answer is yes and the new state is true of them too.
+    pub fn hold(&mut self, f: &Function, a: Operand, pred: Pred, b: Operand, width: u32) -> bool
+        requires function { HasTypedEquations f.now }
+        requires facts { AreFacts V.ty V.proper f.now (known self.old) }
+        requires first { IsNumberOperand f.now width a }
+        requires second { IsNumberOperand f.now width b }
+        ensures becomes { Becomes (held V.answers (narrowed V.answers f.now deepest) a pred b width (known self.old)) result (known self.new) }
+        ensures truth { (env : Env) → IsTrueState V.holds f.now (known self.old) env →
+            HoldsBetween pred width (operand_value env a) (operand_value env b) → IsTrue result × IsTrueState V.holds f.now (known self.new) env }
+        ensures facts { IsTrue result → AreFacts V.ty V.proper f.now (known self.new) }
+        ensures room { KeepsRoom self.old self.new }
+    {
+        self.hold_within(f, a, pred, b, width, DEEPEST)
     }
 
     /// Narrows a name through so many equations.
