@@ -1,5 +1,6 @@
 mod Entries
 pub mod Fitting
+mod Given
 pub mod Keeping
 mod Rows
 pub mod Truthful
