@@ -1,3 +1,4 @@
+pub mod Accepted
 mod Entries
 pub mod Fitting
 mod Given

@@ -4,10 +4,12 @@
 
 mod consequence;
 mod equations;
+mod laws;
 mod narrowing;
 mod predicates;
 mod state;
 mod want;
 
+pub use laws::typed_functions_have_typed_equations;
 pub use state::State;
 pub use want::Want;
