@@ -1,5 +1,5 @@
 -- The equations of a function that some text reads as, and that is well typed, are typed.
-use Rattle.std.proofs.Common.{◌≡◌, ◌<◌, ◌+◌, ◌-◌, ℕ, zero, suc, Bool, true, false, not, ◌&&◌, nat_eq, if◌then◌else◌, Option, Some, None, List, [], ◌∷◌, ◌++◌, map, length, drop, All, slice_get, refl, sym, ◌∙◌, ap, subst, arith, eqb-true, add-one, add_assoc, add-suc, add-zero}
+use Rattle.std.proofs.Common.{◌≡◌, ◌<◌, ◌≤◌, ◌+◌, ◌-◌, ℕ, zero, suc, Bool, true, false, not, ◌&&◌, nat_eq, if◌then◌else◌, Option, Some, None, List, [], ◌∷◌, ◌++◌, map, length, take, drop, All, slice_get, refl, sym, ◌∙◌, ap, subst, arith, eqb-true, add-one, add_assoc, add-suc, add-zero}
 use Rattle.std.specs.Option.{ForSome, option_map_or}
 use Rattle.std.specs.List.{AllZip, cons_option, filter_map, flat_map, range_with_len}
 use Rattle.std.proofs.lemmas.List.Elements.{All-head, All-tail}
@@ -17,6 +17,7 @@ use Rattle.vfa_mean.specs.Moments.{is_call}
 use Rattle.vfa_mean.specs.Outcomes.{type_of}
 use Rattle.vfa_cond.specs.Conditions.{name_type, IsTypedEquation, HasTypedEquations}
 use Rattle.vfa_cond.specs.Equations.{is_result, is_definition, equation_among, or_else, equation_in, equation}
+use Rattle.vfa_cond.specs.TypedLines.{IsTypedLine}
 use Rattle.vfa_cond.proofs.Fitting.{and_second}
 
 -- ---- what holds of all instructions holds of the one that an equation is read from
@@ -40,6 +41,47 @@ inside P v op (b ∷ rest) all e =
     at : (o : Option Op) → equation_among v b.insts ≡ o → or_else o (equation_in v rest) ≡ Some op → (equation_in v rest ≡ Some op → P op) → P op
     at None is e later = later e
     at (Some found) is e later = among P v op b.insts here (is ∙ e)
+
+-- the same of a fact that speaks of the result too
+given_among : (P : ℕ → Op → Type 0) (v : ℕ) (op : Op) (insts : List Inst) → All (λ (i : Inst). ForSome i.result (λ r. P r.0 i.op)) insts → equation_among v insts ≡ Some op → P v op
+given_among P v op [] all e = absurd cc
+given_among P v op (i ∷ rest) all e = at (is_definition v i) refl e (given_among P v op rest (All-tail (λ (j : Inst). ForSome j.result (λ r. P r.0 j.op)) i rest all))
+  where
+    named : (o : Option ValueId) → is_result v o ≡ true → ForSome o (λ r. P r.0 i.op) → P v i.op
+    named None is some = absurd cc
+    named (Some r) is some = subst (λ k. P k i.op) (eqb-true r.0 v is) (some r refl)
+
+    at : (b : Bool) → is_definition v i ≡ b → (if b then Some i.op else equation_among v rest) ≡ Some op → (equation_among v rest ≡ Some op → P v op) → P v op
+    at true is e later =
+        let same : i.op ≡ op = cc in
+        subst (P v) same (named i.result (and_second (not (is_call i.op)) (is_result v i.result) is) (All-head (λ (j : Inst). ForSome j.result (λ r. P r.0 j.op)) i rest all))
+    at false is e later = later e
+
+given_inside : (P : ℕ → Op → Type 0) (v : ℕ) (op : Op) (blocks : List Block) → All (λ (b : Block). All (λ (i : Inst). ForSome i.result (λ r. P r.0 i.op)) b.insts) blocks → equation_in v blocks ≡ Some op → P v op
+given_inside P v op [] all e = absurd cc
+given_inside P v op (b ∷ rest) all e =
+    at (equation_among v b.insts) refl e (given_inside P v op rest (All-tail (λ (c : Block). All (λ (i : Inst). ForSome i.result (λ r. P r.0 i.op)) c.insts) b rest all))
+  where
+    here : All (λ (i : Inst). ForSome i.result (λ r. P r.0 i.op)) b.insts
+    here = All-head (λ (c : Block). All (λ (i : Inst). ForSome i.result (λ r. P r.0 i.op)) c.insts) b rest all
+
+    at : (o : Option Op) → equation_among v b.insts ≡ o → or_else o (equation_in v rest) ≡ Some op → (equation_in v rest ≡ Some op → P v op) → P v op
+    at None is e later = later e
+    at (Some found) is e later = given_among P v op b.insts here (is ∙ e)
+
+pub taken_whole : {A : Type 0} (xs : List A) (i : ℕ) → length xs ≤ i → take i xs ≡ xs
+taken_whole [] zero le = refl
+taken_whole [] (suc i) le = refl
+taken_whole (x ∷ xs) zero le = absurd (omega arith)
+taken_whole (x ∷ xs) (suc i) le = ap (λ l. x ∷ l) (taken_whole xs i (omega arith))
+
+-- where each instruction is typed, each equation is
+pub lines_typed : (f : Function) → All (λ (b : Block). All (IsTypedLine f) b.insts) f.blocks → HasTypedEquations f
+lines_typed f all v op e = record {
+  ranges = inside (PrintableOp f) v op f.blocks (λ k d below. (λ j i within. (all k d below j i within).ranges)) e;
+  operands = inside (TypedOp f) v op f.blocks (λ k d below. (λ j i within. (all k d below j i within).operands)) e;
+  result = given_inside (λ u o. name_type f u ≡ op_type o) v op f.blocks (λ k d below. (λ j i within. (all k d below j i within).result)) e;
+}
 
 -- ---- ids and types side by side
 

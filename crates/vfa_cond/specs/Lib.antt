@@ -6,4 +6,5 @@ pub mod Opposites
 pub mod Places
 pub mod States
 pub mod Truth
+pub mod TypedLines
 pub mod Wants

@@ -8,6 +8,8 @@ mod laws;
 mod narrowing;
 mod predicates;
 mod state;
+#[cfg(test)]
+mod tests;
 mod want;
 
 pub use laws::typed_functions_have_typed_equations;
