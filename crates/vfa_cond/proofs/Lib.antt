@@ -3,5 +3,6 @@ mod Entries
 pub mod Fitting
 mod Given
 pub mod Keeping
+pub mod Names
 mod Rows
 pub mod Truthful

@@ -1,6 +1,6 @@
 -- States: what is known of the names of a function at a place. The code keeps a state as the names that have a fact, in
 -- ascending order, and a mark for each name of the function.
-use Rattle.std.specs.Prelude.{suc, ◌≡◌, ◌<◌, ◌≤◌, ℕ, Bool, false, nat_eq, if◌then◌else◌, Option, Some, None, List, [], ◌∷◌, length, map, unwrap_or, slice_get, All, ⊤}
+use Rattle.std.specs.Prelude.{suc, ◌≡◌, ◌<◌, ◌≤◌, ℕ, Bool, false, nat_eq, if◌then◌else◌, Option, Some, None, List, [], ◌∷◌, length, map, unwrap_or, is_some, slice_get, All, ⊤}
 use Rattle.std.specs.List.{IsDistinct, list_any}
 use Rattle.vfa_ir.specs.declared.operations.ValueId.{ValueId}
 use Rattle.vfa_cond.specs.declared.state.Entry.{Entry}
@@ -40,6 +40,11 @@ IsRoomy s = name_count s ≤ s.room
 pub record KeepsRoom {V : Type 0} (old new : Stored V) : Type 0 where
   pub names : name_count new ≡ name_count old
   pub room : new.room ≡ old.room
+
+-- the same names have facts, and the same equations are live
+pub record KeepsNames {V : Type 0} (old new : AbstractState V) : Type 0 where
+  pub facts : (v : ℕ) → is_some (new.fact v) ≡ is_some (old.fact v)
+  pub live : (v : ℕ) → new.live v ≡ old.live v
 
 -- the state in which the name has this fact, or none
 abbrev pub with_fact : {V : Type 0} → AbstractState V → ℕ → Option V → AbstractState V

@@ -7,7 +7,7 @@ ghost use Rattle.vfa_mean.specs.Values.{Env, operand_value};
 ghost use Rattle.vfa_values.specs.Conditions.{IsInteger, IsOf, width_of};
 ghost use Rattle.vfa_cond.specs.Conditions.{HasTypedEquations, AreFacts, IsNumberOperand, FitsConsequence};
 ghost use Rattle.vfa_cond.specs.Narrowing.{Becomes, deepest, narrowed, narrowed_operand, narrowed_both, operand_fact, held, carried_out, followed};
-ghost use Rattle.vfa_cond.specs.States.{known, KeepsRoom};
+ghost use Rattle.vfa_cond.specs.States.{known, KeepsNames, KeepsRoom};
 ghost use Rattle.vfa_cond.specs.Truth.{IsTrueState, IsWantedValue, HoldsBetween};
 ghost use Rattle.vfa_cond.specs.Wants.{IsWantFor};
 
@@ -52,6 +52,7 @@ impl<V: Values> State<V> {
         ensures truth { (env : Env) → IsTrueState V.holds f.now (known self.old) env →
             IsWantedValue V.holds (width_of (type_of f.now v)) want.now (env v.0) → IsTrue result × IsTrueState V.holds f.now (known self.new) env }
         ensures facts { IsTrue result → AreFacts V.ty V.proper f.now (known self.new) }
+        ensures names { IsTrue result → KeepsNames (known self.old) (known self.new) }
         ensures room { KeepsRoom self.old self.new }
     {
         self.narrow_within(f, v, want, DEEPEST)
@@ -72,6 +73,7 @@ impl<V: Values> State<V> {
         ensures truth { (env : Env) → IsTrueState V.holds f.now (known self.old) env →
             HoldsBetween pred width (operand_value env a) (operand_value env b) → IsTrue result × IsTrueState V.holds f.now (known self.new) env }
         ensures facts { IsTrue result → AreFacts V.ty V.proper f.now (known self.new) }
+        ensures names { IsTrue result → KeepsNames (known self.old) (known self.new) }
         ensures room { KeepsRoom self.old self.new }
     {
         self.hold_within(f, a, pred, b, width, DEEPEST)

@@ -12,7 +12,7 @@ ghost use Rattle.vfa_mean.specs.Outcomes.{type_of};
 ghost use Rattle.vfa_values.specs.Constants.{constant_type, IsConstant};
 ghost use Rattle.vfa_values.specs.Conditions.{IsOf, IsInteger};
 ghost use Rattle.vfa_word.specs.Numbers.{IsWidth};
-ghost use Rattle.vfa_cond.specs.Conditions.{AreFacts, HasTypedEquations};
+ghost use Rattle.vfa_cond.specs.Conditions.{AreFacts, HasTypedEquations, IsNumberOperand};
 ghost use Rattle.vfa_cond.specs.States.{known, name_count, IsRoomy};
 ghost use Rattle.vfa_cond.specs.Wants.{IsWantFor};
 ghost use Rattle.vfa_cond.specs.TypedLines.{IsTypedLine};
@@ -637,4 +637,116 @@ fn four_live_equations_are_followed_and_no_more(rt: HostRuntime) {
         ),
         two(only(BIT, 1), any(BIT))
     );
+}
+
+/// Whether the operand is one of the width.
+fn is_operand(f: &Function, width: u32, operand: Operand) -> bool
+    ensures { IsTrue result → IsNumberOperand f.now width operand }
+{
+    if width < 1 {
+        return false;
+    }
+    if width > 128 {
+        return false;
+    }
+    operand_fits(f, width, operand)
+}
+
+/// What becomes of a state in which the name A has this fact, where the predicate holds of two bytes.
+fn held(
+    alloc: Global,
+    fact: Constant,
+    a: Operand,
+    pred: Pred,
+    b: Operand,
+) -> Result<Outcome, AllocError> {
+    let f = function(alloc)?;
+    if !equations_fit(&f) {
+        return Ok(Outcome::Unfit);
+    }
+    let facts = [(A, fact)];
+    let Some(mut state) = state(alloc, &f, &facts, &[])? else {
+        return Ok(Outcome::Unfit);
+    };
+    if !is_operand(&f, BYTE, a) {
+        return Ok(Outcome::Unfit);
+    }
+    if !is_operand(&f, BYTE, b) {
+        return Ok(Outcome::Unfit);
+    }
+    if state.hold(&f, a, pred, b, BYTE) {
+        return Ok(Outcome::To(state));
+    }
+    Ok(Outcome::Bottom)
+}
+
+/// The fact of A afterwards; None where no values meet the state.
+fn held_fact(
+    rt: &impl Abort,
+    alloc: Global,
+    fact: Constant,
+    a: Operand,
+    pred: Pred,
+    b: Operand,
+) -> Option<Option<Constant>> {
+    match held(alloc, fact, a, pred, b).expect(rt, "memory") {
+        Outcome::Unfit => {
+            assert!(rt; false);
+            None
+        }
+        Outcome::Bottom => None,
+        Outcome::To(state) => Some(state.fact(A)),
+    }
+}
+
+#[test]
+fn literals_pass_or_fail_and_poison_fails(rt: HostRuntime) {
+    let alloc = rt.alloc();
+    let seven = Operand::Literal(7);
+    let eight = Operand::Literal(8);
+    assert_eq!(rt;
+        held_fact(&rt, alloc, any(BYTE), name(A), Pred::Eq, seven),
+        Some(Some(only(BYTE, 7)))
+    );
+    assert_eq!(rt;
+        held_fact(&rt, alloc, any(BYTE), eight, Pred::Eq, name(A)),
+        Some(Some(only(BYTE, 8)))
+    );
+    assert_eq!(rt;
+        held_fact(&rt, alloc, only(BYTE, 7), name(A), Pred::Eq, eight),
+        None
+    );
+    assert_eq!(rt;
+        held_fact(&rt, alloc, any(BYTE), seven, Pred::Eq, seven),
+        Some(Some(any(BYTE)))
+    );
+    assert_eq!(rt;
+        held_fact(&rt, alloc, any(BYTE), seven, Pred::Eq, eight),
+        None
+    );
+    assert_eq!(rt;
+        held_fact(&rt, alloc, any(BYTE), name(A), Pred::Ult, Operand::Poison),
+        None
+    );
+    // both operands are one name
+    assert_eq!(rt;
+        held_fact(&rt, alloc, any(BYTE), name(A), Pred::Ule, name(A)),
+        Some(Some(number(BYTE)))
+    );
+}
+
+#[test]
+fn a_copy_is_the_same_state(rt: HostRuntime) {
+    let alloc = rt.alloc();
+    let f = function(alloc).expect(&rt, "memory");
+    let facts = [(B, only(BYTE, 7)), (A, any(BYTE))];
+    let live = [SUM];
+    let state = state(alloc, &f, &facts, &live)
+        .expect(&rt, "memory")
+        .expect(&rt, "facts that fit");
+    let copy = state.copied(alloc).expect(&rt, "memory");
+    assert_eq!(rt; copy.fact(A), Some(any(BYTE)));
+    assert_eq!(rt; copy.fact(B), Some(only(BYTE, 7)));
+    assert_eq!(rt; copy.fact(P), None);
+    assert!(rt; copy.live(SUM) && !copy.live(MASKED) && !copy.live(A));
 }
