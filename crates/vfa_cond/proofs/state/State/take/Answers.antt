@@ -1,0 +1,13 @@
+use Rattle.std.proofs.Common.{length}
+use Rattle.vfa_cond.proofs.Entries.{stands_at, Ascends-remove, known_remove}
+use Rattle.vfa_cond.proofs.state.State.take.Goals as goal
+
+pub invariant_of-self : goal.invariant_of-self
+invariant_of-self g c =
+    let at = stands_at _ _ _ c.args.self.now c.args.v.0 c.place_of-place.result c.self.view_is c.place_of-place.ensures.place c.place_of-place.ensures.found c.requires in
+    rw c.remove.ensures.items (Ascends-remove _ 0 _ _ _ c.self.invariant at)
+
+pub returns-clause-change : goal.returns-clause-change
+returns-clause-change g c =
+    let at = stands_at _ _ _ c.args.self.now c.args.v.0 c.place_of-place.result c.self.view_is c.place_of-place.ensures.place c.place_of-place.ensures.found c.requires in
+    rw (c.remove.ensures.items, ← c.self.view_is) (known_remove _ _ 0 _ _ _ c.self.invariant at)

@@ -1,0 +1,10 @@
+pub mod Conditions
+pub mod Consequences
+pub mod Equations
+pub mod Narrowing
+pub mod Opposites
+pub mod Places
+pub mod States
+pub mod Truth
+pub mod TypedLines
+pub mod Wants
