@@ -1,3 +1,5 @@
+//! Tests of functions as data: their numbers, operands and words.
+
 use super::*;
 use smallvec::SmallVec;
 use std::alloc::{AllocError, Global};

@@ -55,13 +55,13 @@ no_run : (rest : List ℕ) → IsTrue (ends_token rest) → run_len rest ≡ 0
 no_run [] h = refl
 no_run (b ∷ rest) h = let none : is_run_byte b ≡ false = (neither _ _ h).0 in rw none refl
 
-digit_runs : (b : ℕ) → is_run_byte b ≡ false → is_ascii_digit b ≡ false
+no_digit : (b : ℕ) → is_run_byte b ≡ false → is_ascii_digit b ≡ false
 unfolding is_run_byte
-digit_runs b h = grind arith
+no_digit b h = grind arith
 
 no_digits : (rest : List ℕ) → IsTrue (ends_token rest) → prefix_len is_ascii_digit rest ≡ 0
 no_digits [] h = refl
-no_digits (b ∷ rest) h = let none : is_ascii_digit b ≡ false = digit_runs b (neither _ _ h).0 in rw none refl
+no_digits (b ∷ rest) h = let none : is_ascii_digit b ≡ false = no_digit b (neither _ _ h).0 in rw none refl
 
 pub run_stops : (prefix rest : List ℕ) → IsTrue (ends_token rest) → run_len (prefix ++ rest) ≡ run_len prefix
 run_stops prefix rest h = stops is_run_byte prefix rest (no_run rest h)

@@ -131,8 +131,8 @@ strict_lexed Fun1.Ctpop strict = tt
 cons_some : (c : ℕ) (cs : List ℕ) → IsSomeName (c ∷ cs)
 cons_some c cs e = cc
 
-callee_some : (intrinsic : List ℕ) (width : ℕ) → IsSomeName (callee intrinsic width)
-callee_some intrinsic width = cons_some 108 _
+callee_name : (intrinsic : List ℕ) (width : ℕ) → IsSomeName (callee intrinsic width)
+callee_name intrinsic width = cons_some 108 _
 
 call_lexed :
     (result : List Lexeme) (name : List ℕ) (arguments : List Lexeme) → EachLexed result → IsSomeName name → EachLexed arguments →
@@ -228,15 +228,15 @@ module _ (f : Function) (scope : Scope) (names : HasNames f scope) (calls : AllB
   op_lexed (Op.Freeze width a) h place = (fixed_run (codes "freeze") refl, typed_lexed width a h.0 h.1)
   op_lexed (Op.Two fun width a b) h place =
       call_lexed (spell.type width ∷ []) (callee (fun2_word fun) width) (typed_trees width a b)
-      (type_run width h.of_width, tt) (callee_some (fun2_word fun) width) (typed_pair width a b h)
+      (type_run width h.of_width, tt) (callee_name (fun2_word fun) width) (typed_pair width a b h)
   op_lexed (Op.One fun width a strict) h place =
       call_lexed (spell.type width ∷ []) (callee (fun1_word fun) width)
       (typed_tree width a ++ spell.strict_argument (strict_tree fun strict))
-      (type_run width h.0, tt) (callee_some (fun1_word fun) width)
+      (type_run width h.0, tt) (callee_name (fun1_word fun) width)
       (together (typed_tree width a) _ (typed_lexed width a h.0 h.1) (strict_lexed fun strict))
   op_lexed (Op.Over over width a b) h place =
       call_lexed (spell.pair_type width) (callee (over_word over) width) (typed_trees width a b)
-      (pair_type_lexed width h.of_width) (callee_some (over_word over) width) (typed_pair width a b h)
+      (pair_type_lexed width h.of_width) (callee_name (over_word over) width) (typed_pair width a b h)
   op_lexed (Op.Part width pair index) h place =
       let most : index ≤ 1 = h.2 in (
         fixed_run (codes "extractvalue") refl,

@@ -36,8 +36,8 @@ inst_places scope n (i ∷ is) = go i.result (inst_places scope (next_call n i) 
     go None again = again
     go (Some n) again = ap (λ r. place_of scope.values n ∷ r) again
 
-pub block_places : (scope : Scope) (n : ℕ) (b : BasicBlock) → block_ids (block_of scope n b) ≡ map (place_of scope.values) (block_results b)
-block_places scope n b =
+pub results_places : (scope : Scope) (n : ℕ) (b : BasicBlock) → block_ids (block_of scope n b) ≡ map (place_of scope.values) (block_results b)
+results_places scope n b =
     ap (λ r. r ++ inst_ids (insts_of scope n b.instructions)) (phi_places scope b.phis)
     ∙ ap (λ r. map (place_of scope.values) (map (λ p. p.result) b.phis) ++ r) (inst_places scope n b.instructions)
     ∙ sym (map-append (place_of scope.values) _ _)
@@ -87,7 +87,7 @@ pub blocks_places :
     flat_map block_ids (blocks_of scope n bs) ≡ map (place_of scope.values) (flat_map block_results bs)
 blocks_places scope n [] = refl
 blocks_places scope n (b ∷ bs) =
-    ap (λ r. r ++ flat_map block_ids (blocks_of scope (n + call_count b) bs)) (block_places scope n b)
+    ap (λ r. r ++ flat_map block_ids (blocks_of scope (n + call_count b) bs)) (results_places scope n b)
     ∙ ap (λ r. map (place_of scope.values) (block_results b) ++ r) (blocks_places scope (n + call_count b) bs)
     ∙ sym (map-append (place_of scope.values) (block_results b) (flat_map block_results bs))
 

@@ -51,11 +51,11 @@ digits_number : (ds : List ℕ) → is_digits ds ≡ true → is_number ds ≡ t
 digits_number [] e = e
 digits_number (c ∷ cs) e = or_first (is_digits (c ∷ cs)) _ e
 
-pub decimal_digits : (n : ℕ) → n < 10 ^ 64 → is_digits (decimal n) ≡ true
-decimal_digits n h = numeral_digits (decimal n) (decimal_is_IsNumeral_wide n h).0
+pub small_decimal_digits : (n : ℕ) → n < 10 ^ 64 → is_digits (decimal n) ≡ true
+small_decimal_digits n h = numeral_digits (decimal n) (decimal_is_IsNumeral_wide n h).0
 
 pub decimal_number : (n : ℕ) → n < 10 ^ 64 → is_number (decimal n) ≡ true
-decimal_number n h = digits_number (decimal n) (decimal_digits n h)
+decimal_number n h = digits_number (decimal n) (small_decimal_digits n h)
 
 -- ranges
 minus_low : (v m : ℕ) → v ≤ m → neg_ℤ (pos m) ≤ℤ neg_ℤ (pos v)
@@ -89,7 +89,7 @@ minus_fits width n small h =
     let is_range : IsInRange width (neg_ℤ (pos n)) =
     record { least = minus_low n (2 ^ (width - 1)) h; most = minus_high n (2 ^ width) (pow_pos width) } in
     let value : number_value (byte "-" ∷ decimal n) ≡ neg_ℤ (pos n) = ap (λ v. neg_ℤ (pos v)) d.1 in
-    record { digits = decimal_digits n small; in_range = subst (IsInRange width) (sym value) is_range }
+    record { digits = small_decimal_digits n small; in_range = subst (IsInRange width) (sym value) is_range }
 
 power_small : (width : ℕ) → IsWidth width → 2 ^ width < 10 ^ 64
 power_small width h =

@@ -87,11 +87,11 @@ first_cut_from bytes from line e t h inside within found =
     (ap (λ bs. first (tokens_after 0 from line bs)) (sym (cut_parts bytes from e h inside)) ∙ found) (omega arith)
 
 -- where the last of some tokens ends
-abbrev pub end_or : ℕ → List Token → ℕ
-end_or from [] = from
-end_or from (u ∷ us) = end_or u.end us
+abbrev pub end_after : ℕ → List Token → ℕ
+end_after from [] = from
+end_after from (u ∷ us) = end_after u.end us
 
-pub end_or_last : (u : Token) (us : List Token) → end_or u.end us ≡ end_of_last u us
+pub end_or_last : (u : Token) (us : List Token) → end_after u.end us ≡ end_of_last u us
 end_or_last u [] = refl
 end_or_last u (v ∷ us) = end_or_last v us
 
@@ -103,7 +103,7 @@ rest_is bytes from line u us inside e =
 
 ends_later :
     (bytes : List ℕ) (from line : ℕ) (us vs : List Token) → from ≤ length bytes → tokens_from bytes from line ≡ us ++ vs →
-    (from ≤ end_or from us) × (end_or from us ≤ length bytes)
+    (from ≤ end_after from us) × (end_after from us ≤ length bytes)
 ends_later bytes from line [] vs inside e = (omega arith, inside)
 ends_later bytes from line (u ∷ us) vs inside e =
     let placed = first_placed bytes from line u inside (ap first e) in
@@ -115,7 +115,7 @@ ends_later bytes from line (u ∷ us) vs inside e =
     (omega arith, again.1)
 
 tokens_cut :
-    (bytes : List ℕ) (from line e : ℕ) (us vs : List Token) → from ≤ length bytes → tokens_from bytes from line ≡ us ++ vs → end_or from us ≡ e →
+    (bytes : List ℕ) (from line e : ℕ) (us vs : List Token) → from ≤ length bytes → tokens_from bytes from line ≡ us ++ vs → end_after from us ≡ e →
     tokens_from (take e bytes) from line ≡ us
 tokens_cut bytes from line e [] vs inside h last =
     let long = cut_length bytes e (omega arith) in
@@ -128,8 +128,8 @@ tokens_cut bytes from line e (u ∷ us) vs inside h last =
     let some : u.start < u.end = placed.some in
     let rest = rest_is bytes from line u (us ++ vs) inside h in
     let later = ends_later bytes u.end (line_after bytes u) us vs within rest in
-    let low : u.end ≤ end_or u.end us = later.0 in
-    let high : end_or u.end us ≤ length bytes = later.1 in
+    let low : u.end ≤ end_after u.end us = later.0 in
+    let high : end_after u.end us ≤ length bytes = later.1 in
     let long = cut_length bytes e (omega arith) in
     let found = first_cut_from bytes from line e u (omega arith) (omega arith) (omega arith) (ap first h) in
     let same : line_after (take e bytes) u ≡ line_after bytes u = ap (λ bs. u.line + line_feeds bs) (range_cut bytes u.start u.end e (omega arith) (omega arith) (omega arith)) in
@@ -137,10 +137,10 @@ tokens_cut bytes from line e (u ∷ us) vs inside h last =
     tokens_rest (take e bytes) from line u (omega arith) found ∙ ap (λ ts. u ∷ ts) (ap (tokens_from (take e bytes) u.end) same ∙ again)
 
 -- tokens of bytes that stand elsewhere
-abbrev pub moved : ℕ → ℕ → Token → Token
-moved d c t = record { kind = t.kind; start = t.start + d; end = t.end + d; line = t.line + c }
+abbrev pub shifted : ℕ → ℕ → Token → Token
+shifted d c t = record { kind = t.kind; start = t.start + d; end = t.end + d; line = t.line + c }
 
-moved_tokens : (skip place line d c : ℕ) (bs : List ℕ) → tokens_after skip (place + d) (line + c) bs ≡ map (moved d c) (tokens_after skip place line bs)
+moved_tokens : (skip place line d c : ℕ) (bs : List ℕ) → tokens_after skip (place + d) (line + c) bs ≡ map (shifted d c) (tokens_after skip place line bs)
 moved_tokens skip place line d c [] = refl
 moved_tokens (suc skip) place line d c (b ∷ bs) =
     let at : place + d + 1 ≡ place + 1 + d = omega arith in
@@ -149,8 +149,8 @@ moved_tokens (suc skip) place line d c (b ∷ bs) =
 moved_tokens zero place line d c (b ∷ bs) = go (piece_of b bs) (λ more. moved_tokens more (place + 1) (line + line_feed b) d c bs)
   where
     go :
-        (p : Piece) → ((more : ℕ) → tokens_after more (place + 1 + d) (line + line_feed b + c) bs ≡ map (moved d c) (tokens_after more (place + 1) (line + line_feed b) bs)) →
-        read_on b (place + d) (line + c) bs p ≡ map (moved d c) (read_on b place line bs p)
+        (p : Piece) → ((more : ℕ) → tokens_after more (place + 1 + d) (line + line_feed b + c) bs ≡ map (shifted d c) (tokens_after more (place + 1) (line + line_feed b) bs)) →
+        read_on b (place + d) (line + c) bs p ≡ map (shifted d c) (read_on b place line bs p)
     go (gap more) again =
         let at : place + d + 1 ≡ place + 1 + d = omega arith in
         let on : line + c + line_feed b ≡ line + line_feed b + c = omega arith in
@@ -159,7 +159,7 @@ moved_tokens zero place line d c (b ∷ bs) = go (piece_of b bs) (λ more. moved
         let at : place + d + 1 ≡ place + 1 + d = omega arith in
         let on : line + c + line_feed b ≡ line + line_feed b + c = omega arith in
         let end : place + 1 + d + more ≡ place + 1 + more + d = omega arith in
-        rw (at, on, end) (ap (λ ts. moved d c (record { kind = kind; start = place; end = place + 1 + more; line = line }) ∷ ts) (again more))
+        rw (at, on, end) (ap (λ ts. shifted d c (record { kind = kind; start = place; end = place + 1 + more; line = line }) ∷ ts) (again more))
 
 -- Reading may begin at the first token itself.
 read_at :
@@ -177,13 +177,13 @@ read_at bytes from line u us inside e =
     step ∙ rw (end, long) (ap (λ ts. u ∷ ts) rest)
 
 -- what some of the tokens are that stand elsewhere
-moved_last : (d c : ℕ) (t : Token) (ts : List Token) → end_of_last (moved d c t) (map (moved d c) ts) ≡ end_of_last t ts + d
+moved_last : (d c : ℕ) (t : Token) (ts : List Token) → end_of_last (shifted d c t) (map (shifted d c) ts) ≡ end_of_last t ts + d
 moved_last d c t [] = refl
 moved_last d c t (u ∷ ts) = moved_last d c u ts
 
 moved_text :
     (text : List ℕ) (s e c : ℕ) (t : Token) → s ≤ e → e ≤ length text → t.start < t.end → t.end ≤ length (drop s (take e text)) →
-    text_of (drop s (take e text)) t ≡ text_of text (moved s c t)
+    text_of (drop s (take e text)) t ≡ text_of text (shifted s c t)
 moved_text text s e c t h inside some within =
     let long = cut_length text e inside in
     let left = length-drop s (take e text) in
@@ -194,23 +194,23 @@ moved_text text s e c t h inside some within =
 
 moved_lexemes :
     (text : List ℕ) (s e c : ℕ) (ts : List Token) → s ≤ e → e ≤ length text → AllByRecursion (IsPlaced (drop s (take e text)) 0 1) ts →
-    lexemes (drop s (take e text)) ts ≡ lexemes text (map (moved s c) ts)
+    lexemes (drop s (take e text)) ts ≡ lexemes text (map (shifted s c) ts)
 moved_lexemes text s e c [] h inside placed = refl
 moved_lexemes text s e c (t ∷ ts) h inside placed =
     let here = moved_text text s e c t h inside placed.0.some placed.0.within in
     ap (λ bs. lexeme_of t.kind bs ∷ lexemes (drop s (take e text)) ts) here
-    ∙ ap (λ ls. token_lexeme text (moved s c t) ∷ ls) (moved_lexemes text s e c ts h inside placed.1)
+    ∙ ap (λ ls. token_lexeme text (shifted s c t) ∷ ls) (moved_lexemes text s e c ts h inside placed.1)
 
 moved_whole :
-    (tail : List ℕ) (s e c : ℕ) (u : Token) (us ts : List Token) → map (moved s c) ts ≡ u ∷ us → u.start ≡ s → end_of_last u us ≡ e → length tail ≡ e - s →
+    (tail : List ℕ) (s e c : ℕ) (u : Token) (us ts : List Token) → map (shifted s c) ts ≡ u ∷ us → u.start ≡ s → end_of_last u us ≡ e → length tail ≡ e - s →
     bytes_between tail ts ≡ tail
 moved_whole tail s e c u us [] same begins ends long = absurd (cc)
 moved_whole tail s e c u us (t ∷ ts) same begins ends long =
-    let one : moved s c t ≡ u = (cc) in
-    let rest : map (moved s c) ts ≡ us = (cc) in
+    let one : shifted s c t ≡ u = (cc) in
+    let rest : map (shifted s c) ts ≡ us = (cc) in
     let start : t.start + s ≡ u.start = ap (λ x. x.start) one in
     let none : t.start ≡ 0 = omega arith in
-    let last : end_of_last t ts + s ≡ e = sym (moved_last s c t ts) ∙ ap (λ x. end_of_last x (map (moved s c) ts)) one ∙ ap (end_of_last u) rest ∙ ends in
+    let last : end_of_last t ts + s ≡ e = sym (moved_last s c t ts) ∙ ap (λ x. end_of_last x (map (shifted s c) ts)) one ∙ ap (end_of_last u) rest ∙ ends in
     let wide : end_of_last t ts - 0 ≡ length tail = omega arith in
     ap (λ n. take (end_of_last t ts - n) (drop n tail)) none ∙ ap (λ n. take n tail) wide ∙ take-length tail
 
@@ -228,7 +228,7 @@ alone_at text s e c u us h inside begins ends on found =
     ap (λ n. take (n - u.start) (drop u.start text)) ends ∙ ap (λ n. take (e - n) (drop n text)) begins ∙ range_whole text s e h inside in
     let long : length tail ≡ e - s = length-drop s (take e text) ∙ ap (λ n. n - s) (cut_length text e inside) in
     let zero_place : 0 + s ≡ s = omega arith in
-    let same : map (moved s c) (tokens_of tail) ≡ u ∷ us =
+    let same : map (shifted s c) (tokens_of tail) ≡ u ∷ us =
     sym (moved_tokens 0 0 1 s c tail) ∙ ap (λ n. tokens_after 0 n (1 + c) tail) zero_place ∙ ap (λ n. tokens_after 0 s n tail) (sym on) ∙ found in
     let read : lexemes tail (tokens_of tail) ≡ lexemes text (u ∷ us) =
     moved_lexemes text s e c (tokens_of tail) h inside (tokens_placed tail 0 1 (omega arith)) ∙ ap (lexemes text) same in
@@ -248,7 +248,7 @@ read_alone text from line (u ∷ us) vs inside some e =
     let within : u.end ≤ length text = placed.within in
     let lines : u.line ≡ line + line_feeds (take (u.start - from) (drop from text)) = placed.lines in
     let later = ends_later text u.end (line_after text u) us vs within (rest_is text from line u (us ++ vs) inside e) in
-    let last : ℕ = end_or u.end us in
+    let last : ℕ = end_after u.end us in
     let low : u.end ≤ last = later.0 in
     let high : last ≤ length text = later.1 in
     let long : length (take last text) ≡ last = cut_length text last high in

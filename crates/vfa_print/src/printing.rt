@@ -33,7 +33,9 @@ fn text_with(alloc: Global, names: &ShownNames, f: &Function) -> Result<Vec<u8>,
     push_header(&mut w, names, f)?;
     push_tail(&mut w, f.tail.bytes())?;
     w.bytes(b" {\n")?;
-    push_blocks(&mut w, names, f.calls.as_slice(), f.blocks.as_slice())?;
+    let calls = f.calls.as_slice();
+    let blocks = f.blocks.as_slice();
+    push_blocks(&mut w, names, calls, blocks)?;
     w.bytes(b"}")?;
     Ok(w.into_text())
 }

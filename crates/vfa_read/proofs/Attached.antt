@@ -14,10 +14,10 @@ use Rattle.vfa_read.proofs.Many.{Begins, FitsFrom, follow_many, many_exact, many
 use Rattle.std.proofs.Common.{IsTrue, not}
 use Rattle.std.specs.Str.{byte}
 
-abbrev Parts : Type 0
-Parts = List ℕ × List ℕ
+abbrev AttachmentParts : Type 0
+AttachmentParts = List ℕ × List ℕ
 
-abbrev FitsParts : Parts → Type 0
+abbrev FitsParts : AttachmentParts → Type 0
 FitsParts p = IsTrue (not (is_number p.0)) × IsTrue (is_digits p.1)
 
 parts_exact : Exact (after (one metadata_kind) (λ _. one metadata_node)) (λ p. metadata p.0 ∷ metadata p.1 ∷ []) FitsParts anything

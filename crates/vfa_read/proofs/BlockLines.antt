@@ -1,5 +1,5 @@
 -- Reading a line of a block is exact.
-use Rattle.std.proofs.Common.{◌≡◌, ℕ, Bool, true, false, List, [], ◌∷◌, ◌++◌, Option, Some, None, ◌⊎◌, inl, inr, ⊎_elim, IsTrue, IfSome, bytes_eq, codes, refl, sym, ap, ◌∙◌, subst, append_assoc}
+use Rattle.std.proofs.Common.{◌≡◌, ℕ, Bool, true, false, List, [], ◌∷◌, ◌++◌, Option, Some, None, ◌⊎◌, inl, inr, ⊎_elim, IsTrue, bytes_eq, codes, refl, sym, ap, ◌∙◌, subst, append_assoc}
 use Rattle.std.specs.List.{AllByRecursion}
 use Rattle.std.proofs.lemmas.List.Elements.{All-nil, recursion_from_All, All-from_recursion}
 use Rattle.std.specs.Str.{byte}
@@ -21,13 +21,10 @@ use Rattle.vfa_read.specs.Tables.{the_mark, the_word, local_name}
 use Rattle.vfa_read.proofs.CallReaders.{VoidCalleeFits, VoidFits, VoidStands, void_exact, words_spelling}
 use Rattle.vfa_read.proofs.Exact.{Exact, Made, anything, may_anything, after_exact, made_exact, choose_exact, skip_exact, ended_exact, fits_exact, spelled_exact}
 use Rattle.vfa_read.proofs.LeafReaders.{mark_exact, word_exact, local_exact}
-use Rattle.vfa_read.proofs.LineReaders.{PhiBodyFits, after_phi, phi_from, phi_to, phi_rest_exact, PlainFits, after_equals, plain_rest_exact, line_follow, plain_follow, AttachedFit, attached_op_exact}
-use Rattle.vfa_read.proofs.OperationReaders.{IsDefining, MarkedSpelled, among_first, among_second, other_spelled, two_words}
+use Rattle.vfa_read.proofs.LineReaders.{PhiBodyFits, after_phi, phi_from, phi_to, phi_rest_exact, PlainLineFits, after_equals, plain_rest_exact, line_follow, plain_follow, AttachedFit, attached_op_exact}
+use Rattle.vfa_read.proofs.OperationReaders.{IsDefining, MarkedSpelled, among_first, among_second, other_spelled, two_words, MarkerFits}
 
 -- no operation begins with `phi`
-
-abbrev pub MarkerFits : Option (List ℕ) → Type 0
-MarkerFits m = IfSome m (λ w. IsTrue (is_among w (codes "tail" ∷ codes "notail" ∷ [])))
 
 marker_no_phi : (m : Option (List ℕ)) (ls : List Lexeme) → MarkerFits m → next_passes (is_word (codes "phi")) (spell.optional_word m ++ (word (codes "call") ∷ ls)) ≡ false
 marker_no_phi None ls f = refl
@@ -48,24 +45,24 @@ no_phi _ rest f = refl
 
 -- what stands after `%name =`
 
-abbrev RestFits : Bool → List ℕ → Line → Type 0
-RestFits true r l = Made (phi_of r) PhiBodyFits l ⊎ Made (plain_of (Some r)) PlainFits l
-RestFits false r l = Made (plain_of (Some r)) PlainFits l
+abbrev LineRestFits : Bool → List ℕ → Line → Type 0
+LineRestFits true r l = Made (phi_of r) PhiBodyFits l ⊎ Made (plain_of (Some r)) PlainLineFits l
+LineRestFits false r l = Made (plain_of (Some r)) PlainLineFits l
 
 worded_phi : (r : List ℕ) → Exact (skip (the_word (codes "phi")) (phi_rest r)) after_equals (Made (phi_of r) PhiBodyFits) line_follow
 worded_phi r = spelled_exact (skip (the_word (codes "phi")) (phi_rest r)) (λ l. word (codes "phi") ∷ after_phi l) after_equals (Made (phi_of r) PhiBodyFits) line_follow
     (skip_exact (the_word (codes "phi")) (word (codes "phi")) (phi_rest r) after_phi (Made (phi_of r) PhiBodyFits) line_follow (word_exact (codes "phi")) (phi_rest_exact r))
     (λ l m. subst (λ z. word (codes "phi") ∷ after_phi z ≡ after_equals z) m.is refl)
 
-plain_others : (r : List ℕ) (l : Line) (rest : List Lexeme) → Made (plain_of (Some r)) PlainFits l → next_passes (is_word (codes "phi")) (after_equals l ++ rest) ≡ false
+plain_others : (r : List ℕ) (l : Line) (rest : List Lexeme) → Made (plain_of (Some r)) PlainLineFits l → next_passes (is_word (codes "phi")) (after_equals l ++ rest) ≡ false
 plain_others r l rest m =
     let op = m.from.0 in
     let xs = spell.attachments m.from.1 in
     ap (λ z. next_passes (is_word (codes "phi")) (after_equals z ++ rest)) (sym m.is)
     ∙ ap (next_passes (is_word (codes "phi"))) (append_assoc (spell.operation op) xs rest) ∙ no_phi op (xs ++ rest) m.fits.0.0
 
-defined_rest_exact : (phis : Bool) (r : List ℕ) → Exact (defined_rest phis r) after_equals (RestFits phis r) line_follow
-defined_rest_exact true r = choose_exact (is_word (codes "phi")) (skip (the_word (codes "phi")) (phi_rest r)) (plain_rest r) after_equals (Made (phi_of r) PhiBodyFits) (Made (plain_of (Some r)) PlainFits) line_follow
+defined_rest_exact : (phis : Bool) (r : List ℕ) → Exact (defined_rest phis r) after_equals (LineRestFits phis r) line_follow
+defined_rest_exact true r = choose_exact (is_word (codes "phi")) (skip (the_word (codes "phi")) (phi_rest r)) (plain_rest r) after_equals (Made (phi_of r) PhiBodyFits) (Made (plain_of (Some r)) PlainLineFits) line_follow
     (worded_phi r) (plain_rest_exact r)
     (λ l rest m k. ap (λ z. next_passes (is_word (codes "phi")) (after_equals z ++ rest)) (sym m.is))
     (λ l rest m k. plain_others r l rest m)
@@ -74,20 +71,20 @@ defined_rest_exact false r = plain_rest_exact r
 -- a line that defines a name
 
 abbrev DefinedFits : Bool → List ℕ × Line → Type 0
-DefinedFits phis p = Unit {0} × RestFits phis p.0 p.1
+DefinedFits phis p = Unit {0} × LineRestFits phis p.0 p.1
 
 abbrev LineSpelled : List ℕ → Line → Type 0
 LineSpelled r l = items.line l ≡ local r ∷ mark (byte "=") ∷ after_equals l
 
-rest_spelled : (phis : Bool) (r : List ℕ) (l : Line) → RestFits phis r l → LineSpelled r l
+rest_spelled : (phis : Bool) (r : List ℕ) (l : Line) → LineRestFits phis r l → LineSpelled r l
 rest_spelled true r l f = ⊎_elim (λ m. subst (LineSpelled r) m.is refl) (λ m. subst (LineSpelled r) m.is refl) f
 rest_spelled false r l m = subst (LineSpelled r) m.is refl
 
 defined_exact : (phis : Bool) → Exact (defined_line phis) items.line (Made defined_of (DefinedFits phis)) line_follow
 unfolding defined_line
 defined_exact phis = made_exact defined_of (after (one local_name) (λ r. skip (the_mark (byte "=")) (defined_rest phis r))) (λ p. local p.0 ∷ mark (byte "=") ∷ after_equals p.1) (DefinedFits phis) (λ p. line_follow p.1) items.line line_follow
-    (after_exact (one local_name) (λ r. skip (the_mark (byte "=")) (defined_rest phis r)) (λ r. local r ∷ []) (λ _. Unit {0}) anything (λ _ l. mark (byte "=") ∷ after_equals l) (λ r l. RestFits phis r l) (λ _ l. line_follow l)
-    local_exact (λ r _. skip_exact (the_mark (byte "=")) (mark (byte "=")) (defined_rest phis r) after_equals (RestFits phis r) line_follow (mark_exact (byte "=")) (defined_rest_exact phis r))
+    (after_exact (one local_name) (λ r. skip (the_mark (byte "=")) (defined_rest phis r)) (λ r. local r ∷ []) (λ _. Unit {0}) anything (λ _ l. mark (byte "=") ∷ after_equals l) (λ r l. LineRestFits phis r l) (λ _ l. line_follow l)
+    local_exact (λ r _. skip_exact (the_mark (byte "=")) (mark (byte "=")) (defined_rest phis r) after_equals (LineRestFits phis r) line_follow (mark_exact (byte "=")) (defined_rest_exact phis r))
     (λ a b rest f g m. refl))
     (λ p f. rest_spelled phis p.0 p.1 f.1) (λ p f. refl)
 
@@ -219,7 +216,7 @@ defined_result r (Operation.Assume c x) f = absurd f
 defined_result r (Operation.Call c attributes None name xs) f = absurd f
 defined_result r _ f = tt
 
-defined_plain : (r : List ℕ) (l : Line) → Made (plain_of (Some r)) PlainFits l → LineFits false l
+defined_plain : (r : List ℕ) (l : Line) → Made (plain_of (Some r)) PlainLineFits l → LineFits false l
 defined_plain r l m =
     subst (LineFits false) m.is (plain_fits (Some r) m.from.0 m.from.1 (defined_result r m.from.0 m.fits.0.1) m.fits.0.0 m.fits.1)
 
@@ -231,7 +228,7 @@ plain_any phis (Line.Plain i) f = f
 phi_line : (r : List ℕ) (l : Line) → Made (phi_of r) PhiBodyFits l → LineFits true l
 phi_line r l m = subst (LineFits true) m.is (refl, phi_to r m.from m.fits)
 
-defined_to : (phis : Bool) (r : List ℕ) (l : Line) → RestFits phis r l → LineFits phis l
+defined_to : (phis : Bool) (r : List ℕ) (l : Line) → LineRestFits phis r l → LineFits phis l
 defined_to true r l f = ⊎_elim (λ m. phi_line r l m) (λ m. plain_any true l (defined_plain r l m)) f
 defined_to false r l m = defined_plain r l m
 
@@ -253,7 +250,7 @@ voided_to l m =
 line_to : (phis : Bool) (l : Line) → EitherLine phis l → LineFits phis l
 line_to phis l f = ⊎_elim (λ m. plain_any phis l (voided_to l m)) (λ m. subst (LineFits phis) m.is (defined_to phis m.from.0 m.from.1 m.fits.1)) f
 
-plain_rest_fits : (phis : Bool) (r : List ℕ) (l : Line) → Made (plain_of (Some r)) PlainFits l → RestFits phis r l
+plain_rest_fits : (phis : Bool) (r : List ℕ) (l : Line) → Made (plain_of (Some r)) PlainLineFits l → LineRestFits phis r l
 plain_rest_fits true r l m = inr m
 plain_rest_fits false r l m = m
 

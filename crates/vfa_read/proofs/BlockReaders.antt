@@ -24,7 +24,7 @@ use Rattle.vfa_read.specs.Productions.{is_mark, attachments, block_lines, return
 use Rattle.vfa_read.specs.Readers.{one, nothing, after, made, many, next_passes, ◌>>=◌}
 use Rattle.vfa_read.specs.Tables.{keyword_in}
 use Rattle.vfa_read.proofs.Attached.{attachments_exact}
-use Rattle.vfa_read.proofs.BlockLines.{LineFits, line_exact, attached_to, attached_from, MarkerFits, call_starts}
+use Rattle.vfa_read.proofs.BlockLines.{LineFits, line_exact, attached_to, attached_from, call_starts}
 use Rattle.vfa_read.proofs.Exact.{Exact, Made, anything, may_anything, nothing_exact, after_exact, made_exact, fits_exact, spelled_exact}
 use Rattle.vfa_read.proofs.FormReaders.{op_follow, after_terminator_word, TypedFits, returned_exact, ConditionFits, branch_exact}
 use Rattle.vfa_read.proofs.LeafReaders.{keyword_exact}
@@ -32,6 +32,7 @@ use Rattle.vfa_read.proofs.LineReaders.{attach_follow, AttachedFit, line_follow,
 use Rattle.vfa_read.proofs.WordLists.{and_both, last_any}
 use Rattle.vfa_read.proofs.Many.{Begins, FitsFrom, follow_many, many_exact, many_item, many_bad, many_done, shorter}
 use Rattle.vfa_read.proofs.SwitchReaders.{CasesFit, SwitchFits, switch_exact}
+use Rattle.vfa_read.proofs.OperationReaders.{MarkerFits}
 
 -- terminators
 
@@ -92,9 +93,9 @@ ending_from (TerminatorKind.Switch w on d cs) f = record {
 }
 ending_from TerminatorKind.Unreachable f = record { from = (Ending.Unreachable, TerminatorKind.Unreachable); fits = (tt, refl); is = refl }
 
-kind_exact : Exact terminator_kind spell.terminator_kind FitsTerminatorKind anything
+terminator_kind_exact : Exact terminator_kind spell.terminator_kind FitsTerminatorKind anything
 unfolding terminator_kind
-kind_exact = fits_exact (made ended_by (after (one (keyword_in ending_word endings)) ending_rest)) spell.terminator_kind (Made ended_by EndedFits) FitsTerminatorKind anything
+terminator_kind_exact = fits_exact (made ended_by (after (one (keyword_in ending_word endings)) ending_rest)) spell.terminator_kind (Made ended_by EndedFits) FitsTerminatorKind anything
     (made_exact ended_by (after (one (keyword_in ending_word endings)) ending_rest) (λ p. word (ending_word p.0) ∷ after_terminator_word p.1) EndedFits anything spell.terminator_kind anything
     (after_exact (one (keyword_in ending_word endings)) ending_rest (λ e. word (ending_word e) ∷ []) (λ _. Unit {0}) anything (λ _ t. after_terminator_word t) EndingFits (λ _ t. anything t)
     (keyword_exact ending_word endings ending_each Ending.Unreachable) (λ e _. ending_rest_exact e) (λ a b rest f g m. may_anything a (after_terminator_word b ++ rest)))
@@ -111,7 +112,7 @@ pub terminator_exact : Exact terminator spell.terminator FitsTerminator end_foll
 unfolding terminator
 terminator_exact = fits_exact (made terminator_of (after terminator_kind (λ _. attachments))) spell.terminator (Made terminator_of EndFits) FitsTerminator end_follow
     (made_exact terminator_of (after terminator_kind (λ _. attachments)) (λ p. spell.terminator_kind p.0 ++ spell.attachments p.1) EndFits (λ p. attach_follow p.1) spell.terminator end_follow
-    (after_exact terminator_kind (λ _. attachments) spell.terminator_kind FitsTerminatorKind anything (λ _ xs. spell.attachments xs) (λ _ xs. AttachedFit xs) (λ _ xs. attach_follow xs) kind_exact (λ _ _. attachments_exact)
+    (after_exact terminator_kind (λ _. attachments) spell.terminator_kind FitsTerminatorKind anything (λ _ xs. spell.attachments xs) (λ _ xs. AttachedFit xs) (λ _ xs. attach_follow xs) terminator_kind_exact (λ _ _. attachments_exact)
     (λ a b rest f g m. may_anything a (spell.attachments b ++ rest)))
     (λ p f. refl) (λ p f. refl))
     (λ t m. subst FitsTerminator m.is (record { kind = m.fits.0; attached = All-from_recursion FitsAttachment m.from.1 (attached_to m.from.1 m.fits.1) }))
@@ -212,12 +213,12 @@ lines_again (Line.Plain i ∷ ls) f =
     let rest = plain_alone ls f.1 in
     ap (λ z. map Line.Phi z ++ (Line.Plain i ∷ map Line.Plain (instructions_of ls))) rest.0 ∙ ap (λ z. Line.Plain i ∷ z) rest.1
 
-plain_spelled : (ys : List Instruction) → flat_map items.line (map Line.Plain ys) ≡ flat_map spell.instruction ys
-plain_spelled [] = refl
-plain_spelled (y ∷ ys) = ap (λ z. spell.instruction y ++ z) (plain_spelled ys)
+plain_lines_spelled : (ys : List Instruction) → flat_map items.line (map Line.Plain ys) ≡ flat_map spell.instruction ys
+plain_lines_spelled [] = refl
+plain_lines_spelled (y ∷ ys) = ap (λ z. spell.instruction y ++ z) (plain_lines_spelled ys)
 
 pub lines_spelled : (xs : List PhiNode) (ys : List Instruction) → flat_map items.line (map Line.Phi xs ++ map Line.Plain ys) ≡ flat_map spell.phi xs ++ flat_map spell.instruction ys
-lines_spelled [] ys = plain_spelled ys
+lines_spelled [] ys = plain_lines_spelled ys
 lines_spelled (x ∷ xs) ys = ap (λ z. spell.phi x ++ z) (lines_spelled xs ys) ∙ sym (append_assoc (spell.phi x) (flat_map spell.phi xs) (flat_map spell.instruction ys))
 
 no_phis : (ys : List Instruction) → phis_of (map Line.Plain ys) ≡ []

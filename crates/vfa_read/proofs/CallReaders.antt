@@ -129,8 +129,8 @@ after_call (Operation.Over words over w a b) = spell.pair_type w ++ (global (cal
 after_call (Operation.Assume words c) = word (codes "void") ∷ global (codes "llvm.assume") ∷ mark (byte "(") ∷ (spell.typed 1 c ++ (mark (byte ")") ∷ map group words.groups))
 after_call _ = []
 
-closed : (ls gs : List Lexeme) → mark (byte "(") ∷ (ls ++ (mark (byte ")") ∷ gs)) ≡ (mark (byte "(") ∷ (ls ++ (mark (byte ")") ∷ []))) ++ gs
-closed ls gs = ap (λ z. mark (byte "(") ∷ z) (sym (append_assoc ls (mark (byte ")") ∷ []) gs))
+closing_apart : (ls gs : List Lexeme) → mark (byte "(") ∷ (ls ++ (mark (byte ")") ∷ gs)) ≡ (mark (byte "(") ∷ (ls ++ (mark (byte ")") ∷ []))) ++ gs
+closing_apart ls gs = ap (λ z. mark (byte "(") ∷ z) (sym (append_assoc ls (mark (byte ")") ∷ []) gs))
 
 abbrev TwoFits : ℕ → (Written × Written) × List (List ℕ) → Type 0
 TwoFits w p = FitsTwo w p.0 × Unit {0}
@@ -142,7 +142,7 @@ two_exact m w fun h = made_exact (two_of m w fun) (after (arguments w) (λ _. gr
     (after_exact (arguments w) (λ _. groups) (λ p. mark (byte "(") ∷ ((spell.typed w p.0 ++ (mark (byte ",") ∷ spell.typed w p.1)) ++ (mark (byte ")") ∷ []))) (FitsTwo w) anything
     (λ _ g. map group g) (λ _ _. Unit {0}) (λ _ g. group_follow g) (arguments_exact w h) (λ _ _. groups_exact)
     (λ a b rest f g k. may_anything a (map group b ++ rest)))
-    (λ p f. closed (spell.typed w p.0.0 ++ (mark (byte ",") ∷ spell.typed w p.0.1)) (map group p.1)) (λ p f. refl)
+    (λ p f. closing_apart (spell.typed w p.0.0 ++ (mark (byte ",") ∷ spell.typed w p.0.1)) (map group p.1)) (λ p f. refl)
 
 abbrev OneFits : ℕ → Fun1 → (Written × Option Literal) × List (List ℕ) → Type 0
 OneFits w fun p = IntrinsicArgument w fun p.0 × Unit {0}
@@ -154,7 +154,7 @@ one_call_exact m w fun h = made_exact (one_of m w fun) (after (argument w fun) (
     (after_exact (argument w fun) (λ _. groups) (λ p. mark (byte "(") ∷ ((spell.typed w p.0 ++ spell.strict_argument p.1) ++ (mark (byte ")") ∷ []))) (IntrinsicArgument w fun) anything
     (λ _ g. map group g) (λ _ _. Unit {0}) (λ _ g. group_follow g) (argument_exact w fun h) (λ _ _. groups_exact)
     (λ a b rest f g k. may_anything a (map group b ++ rest)))
-    (λ p f. closed (spell.typed w p.0.0 ++ spell.strict_argument p.0.1) (map group p.1)) (λ p f. refl)
+    (λ p f. closing_apart (spell.typed w p.0.0 ++ spell.strict_argument p.0.1) (map group p.1)) (λ p f. refl)
 
 -- the intrinsics by their names
 
@@ -333,7 +333,7 @@ other_exact m words width name = made_exact (other_of m words width name) (after
     (after_exact call_arguments (λ _. groups) (λ xs. mark (byte "(") ∷ (arguments_joined xs ++ (mark (byte ")") ∷ []))) (All FitsArgument) anything
     (λ _ g. map group g) (λ _ _. Unit {0}) (λ _ g. group_follow g) call_arguments_exact (λ _ _. groups_exact)
     (λ a b rest f g k. may_anything a (map group b ++ rest)))
-    (λ p f. closed (arguments_joined p.0) (map group p.1)) (λ p f. refl)
+    (λ p f. closing_apart (arguments_joined p.0) (map group p.1)) (λ p f. refl)
 
 -- no type, and no `void`, is a word of a call
 
@@ -443,7 +443,7 @@ over_exact m = made_exact (over_of m) (after pair_type (λ width. after (one (ca
     (λ a b rest f g k. may_anything a (map group b ++ rest)))
     (λ a b rest f g k. refl))
     (λ a b rest f g k. refl))
-    (λ p f. ap (λ z. spell.pair_type p.0 ++ (global (callee (over_word p.1.0) p.0) ∷ z)) (closed (spell.typed p.0 p.1.1.0.0 ++ (mark (byte ",") ∷ spell.typed p.0 p.1.1.0.1)) (map group p.1.1.1)))
+    (λ p f. ap (λ z. spell.pair_type p.0 ++ (global (callee (over_word p.1.0) p.0) ∷ z)) (closing_apart (spell.typed p.0 p.1.1.0.0 ++ (mark (byte ",") ∷ spell.typed p.0 p.1.1.0.1)) (map group p.1.1.1)))
     (λ p f. refl)
 
 no_brace : (ws : List (List ℕ)) (ls rest : List Lexeme) → next_passes (is_mark (byte "{")) (ls ++ rest) ≡ false → next_passes (is_mark (byte "{")) ((map word ws ++ ls) ++ rest) ≡ false
@@ -490,7 +490,7 @@ unfolding assume_call
 assume_exact m = made_exact (assume_of m) (after assumed (λ _. groups)) (λ p. assumed_spelling p.0 ++ map group p.1) AssumeFits (λ p. group_follow p.1) void_arguments op_follow
     (after_exact assumed (λ _. groups) assumed_spelling (FitsValue 1) anything (λ _ g. map group g) (λ _ _. Unit {0}) (λ _ g. group_follow g) assumed_exact (λ _ _. groups_exact)
     (λ a b rest f g k. may_anything a (map group b ++ rest)))
-    (λ p f. closed (spell.typed 1 p.0) (map group p.1)) (λ p f. refl)
+    (λ p f. closing_apart (spell.typed 1 p.0) (map group p.1)) (λ p f. refl)
 
 abbrev pub VoidCalleeFits : Option (List ℕ) → List (List ℕ) → VoidCallee → Operation → Type 0
 VoidCalleeFits m words VoidCallee.Assume = Made (assume_of m) AssumeFits

@@ -28,10 +28,10 @@ cast_flags_exact Cast.Zext = optional_word_exact (codes "nneg")
 cast_flags_exact Cast.Sext = no_flags_exact
 cast_flags_exact Cast.Trunc = wrap_exact
 
-type_follows : (cast : Cast) (ws : List (List ℕ)) (w : ℕ) → cast_follow cast ws (spell.type w) ≡ true
-type_follows Cast.Zext ws w = word_type (codes "nneg") (λ _. refl) ws w
-type_follows Cast.Sext ws w = refl
-type_follows Cast.Trunc ws w = wrap_type ws w
+cast_type_follows : (cast : Cast) (ws : List (List ℕ)) (w : ℕ) → cast_follow cast ws (spell.type w) ≡ true
+cast_type_follows Cast.Zext ws w = word_type (codes "nneg") (λ _. refl) ws w
+cast_type_follows Cast.Sext ws w = refl
+cast_type_follows Cast.Trunc ws w = wrap_type ws w
 
 abbrev Converted : Type 0
 Converted = ℕ × (Written × ℕ)
@@ -58,5 +58,5 @@ pub convert_exact : (cast : Cast) → Exact (convert cast) after_word (Made (con
 unfolding convert
 convert_exact cast = made_exact (convert_of cast) (after (cast_flags cast) (λ _. converted)) (λ p. map word p.0 ++ converted_spelling p.1) (CastFits cast) anything after_word op_follow
     (after_exact (cast_flags cast) (λ _. converted) (map word) (CastFlagsFit cast) (cast_follow cast) (λ _ q. converted_spelling q) (λ _ q. ConvertedFits q) (λ _ q. anything q)
-    (cast_flags_exact cast) (λ _ _. converted_exact) (λ a b rest f g m. type_follows cast a b.0))
+    (cast_flags_exact cast) (λ _ _. converted_exact) (λ a b rest f g m. cast_type_follows cast a b.0))
     (λ p f. refl) (λ p f. refl)

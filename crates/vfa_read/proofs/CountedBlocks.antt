@@ -52,8 +52,8 @@ block_counted s from at b t name numbers found are =
     ∙ ap (λ ns. first_lines ns start) (append_assoc (map (λ p. length (spell.phi p)) b.phis) (map (λ i. length (spell.instruction i)) b.instructions) (n ∷ []))
 
 -- the label that a block was made with
-label_is : (name : Option (List ℕ)) (ts rest : List Lexeme) (b : BasicBlock) → made (block_labelled name) block_rest ts ≡ Ok (b, rest) → name ≡ b.label
-label_is name ts rest b e =
+labelled_is : (name : Option (List ℕ)) (ts rest : List Lexeme) (b : BasicBlock) → made (block_labelled name) block_rest ts ≡ Ok (b, rest) → name ≡ b.label
+labelled_is name ts rest b e =
     let m = bind_ok (block_rest ts) (λ p. Ok (block_labelled name p.0, p.1)) (b, rest) e in
     ap (λ z. z.label) (ok_value (block_labelled name m.first.0, m.first.1) (b, rest) m.then_is)
 
@@ -63,7 +63,7 @@ pub labelled_counted :
     first_lines (item_lengths b) (drop next (line_numbers s)) ≡ block_numbers b (drop at (line_numbers s))
 labelled_counted s at next name b rest before found =
     ap (first_lines (item_lengths b)) (moved s at next (spell.block_label name) before
-    ∙ ap (λ z. drop (length (spell.block_label z)) (drop at (line_numbers s))) (label_is name (drop next (all_of s)) rest b found))
+    ∙ ap (λ z. drop (length (spell.block_label z)) (drop at (line_numbers s))) (labelled_is name (drop next (all_of s)) rest b found))
 
 -- the same of what a block is read by
 pub labelled_result :

@@ -160,20 +160,20 @@ closed_exact : Exact closed (λ ps. mark (byte "(") ∷ (joined ps ++ (mark (byt
 closed_exact = skip_exact (the_mark (byte "(")) (mark (byte "(")) (ended parameters (the_mark (byte ")"))) (λ ps. joined ps ++ (mark (byte ")") ∷ [])) (All FitsParameter) anything (mark_exact (byte "("))
     (ended_exact parameters (the_mark (byte ")")) (mark (byte ")")) joined (All FitsParameter) parameters_follow parameters_exact (mark_exact (byte ")")) (λ ps f. closes_parameters ps))
 
-abbrev Named : Type 0
-Named = ℕ × (List ℕ × List Parameter)
+abbrev AfterLead : Type 0
+AfterLead = ℕ × (List ℕ × List Parameter)
 
-abbrev NamedFits : Named → Type 0
-NamedFits q = IsWidth q.0 × (Unit {0} × All FitsParameter q.1.1)
+abbrev AfterLeadFits : AfterLead → Type 0
+AfterLeadFits q = IsWidth q.0 × (Unit {0} × All FitsParameter q.1.1)
 
-abbrev named : Reader Named
-named = after (one type_of) (λ _. after (one global_name) (λ _. closed))
+abbrev after_lead : Reader AfterLead
+after_lead = after (one type_of) (λ _. after (one global_name) (λ _. closed))
 
-abbrev named_spelling : Named → List Lexeme
-named_spelling q = spell.type q.0 ∷ global q.1.0 ∷ mark (byte "(") ∷ (joined q.1.1 ++ (mark (byte ")") ∷ []))
+abbrev after_lead_spelling : AfterLead → List Lexeme
+after_lead_spelling q = spell.type q.0 ∷ global q.1.0 ∷ mark (byte "(") ∷ (joined q.1.1 ++ (mark (byte ")") ∷ []))
 
-named_exact : Exact named named_spelling NamedFits anything
-named_exact = after_exact (one type_of) (λ _. after (one global_name) (λ _. closed)) (λ w. spell.type w ∷ []) IsWidth anything
+after_lead_exact : Exact after_lead after_lead_spelling AfterLeadFits anything
+after_lead_exact = after_exact (one type_of) (λ _. after (one global_name) (λ _. closed)) (λ w. spell.type w ∷ []) IsWidth anything
     (λ _ q. global q.0 ∷ mark (byte "(") ∷ (joined q.1 ++ (mark (byte ")") ∷ []))) (λ _ q. Unit {0} × All FitsParameter q.1) (λ _ q. anything q) type_exact
     (λ _ _. after_exact (one global_name) (λ _. closed) (λ x. global x ∷ []) (λ _. Unit {0}) anything (λ _ ps. mark (byte "(") ∷ (joined ps ++ (mark (byte ")") ∷ []))) (λ _ ps. All FitsParameter ps) (λ _ ps. anything ps)
     global_exact (λ _ _. closed_exact) (λ a b rest f g m. refl))
@@ -181,6 +181,6 @@ named_exact = after_exact (one type_of) (λ _. after (one global_name) (λ _. cl
 
 pub header_exact : Exact header header_spelling HeaderFits anything
 unfolding header
-header_exact = skip_exact (the_word (codes "define")) (word (codes "define")) (after (words_among lead_words) (λ _. named)) (λ p. map word p.0 ++ named_spelling p.1) HeaderFits anything (word_exact (codes "define"))
-    (after_exact (words_among lead_words) (λ _. named) (map word) LeadFits lead_follow (λ _ q. named_spelling q) (λ _ q. NamedFits q) (λ _ q. anything q)
-    (words_exact lead_words (codes "internal") refl) (λ _ _. named_exact) (λ ws q rest f g m. lead_type ws q.0 g.0))
+header_exact = skip_exact (the_word (codes "define")) (word (codes "define")) (after (words_among lead_words) (λ _. after_lead)) (λ p. map word p.0 ++ after_lead_spelling p.1) HeaderFits anything (word_exact (codes "define"))
+    (after_exact (words_among lead_words) (λ _. after_lead) (map word) LeadFits lead_follow (λ _ q. after_lead_spelling q) (λ _ q. AfterLeadFits q) (λ _ q. anything q)
+    (words_exact lead_words (codes "internal") refl) (λ _ _. after_lead_exact) (λ ws q rest f g m. lead_type ws q.0 g.0))

@@ -76,9 +76,9 @@ part_from : (w : ℕ) (p : PhiPart) → PartFits w true p → Made PhiPart.Entry
 part_from w (PhiPart.Entry i) f = inl (record { from = i; fits = f.1; is = refl })
 part_from w (PhiPart.Attached a) f = inr (record { from = a; fits = f; is = refl })
 
-attached_from : (w : ℕ) (p : PhiPart) → PartFits w false p → Made PhiPart.Attached FitsAttachment p
-attached_from w (PhiPart.Entry i) f = let no = f.0 in cc
-attached_from w (PhiPart.Attached a) f = record { from = a; fits = f; is = refl }
+part_attached : (w : ℕ) (p : PhiPart) → PartFits w false p → Made PhiPart.Attached FitsAttachment p
+part_attached w (PhiPart.Entry i) f = let no = f.0 in cc
+part_attached w (PhiPart.Attached a) f = record { from = a; fits = f; is = refl }
 
 part_reader_exact : (w : ℕ) → IsWidth w → (operands : Bool) → Exact (part_reader w operands) after_comma (PartFits w operands) anything
 part_reader_exact w h true = fits_exact (part_reader w true) after_comma (λ p. Made PhiPart.Entry (IncomingFits w) p ⊎ Made PhiPart.Attached FitsAttachment p) (PartFits w true) anything
@@ -88,7 +88,7 @@ part_reader_exact w h true = fits_exact (part_reader w true) after_comma (λ p. 
     (λ p rest m k. ap (λ z. next_passes (is_mark (byte "[")) (after_comma z ++ rest)) (sym m.is)))
     (λ p f. ⊎_elim (λ m. subst (PartFits w true) m.is (refl, m.fits)) (λ m. subst (PartFits w true) m.is m.fits) f) (part_from w)
 part_reader_exact w h false = fits_exact (part_reader w false) after_comma (Made PhiPart.Attached FitsAttachment) (PartFits w false) anything attached_part
-    (λ p m. subst (PartFits w false) m.is m.fits) (attached_from w)
+    (λ p m. subst (PartFits w false) m.is m.fits) (part_attached w)
 
 part_spelled : (p : PhiPart) → mark (byte ",") ∷ after_comma p ≡ items.phi_part p
 part_spelled (PhiPart.Entry i) = refl
@@ -309,14 +309,14 @@ module _ (op_reader : Reader Operation) (op_spelling : Operation → List Lexeme
   attached_op_exact = after_exact_with op_reader (λ _. attachments) op_spelling F op_follow (λ _ xs. spell.attachments xs) (λ _ xs. AttachedFit xs) (λ _ xs. attach_follow xs) plain_follow
       eo (λ _ _. attachments_exact) (λ op xs rest f g m. plain_joins op xs rest m) plain_second plain_both
 
-abbrev pub PlainFits : Operation × List Attachment → Type 0
-PlainFits p = DefiningFits p.0 × AttachedFit p.1
+abbrev pub PlainLineFits : Operation × List Attachment → Type 0
+PlainLineFits p = DefiningFits p.0 × AttachedFit p.1
 
 abbrev pub after_equals : Line → List Lexeme
 after_equals (Line.Phi p) = word (codes "phi") ∷ after_phi (Line.Phi p)
 after_equals (Line.Plain i) = spell.operation i.operation ++ spell.attachments i.attached
 
-pub plain_rest_exact : (r : List ℕ) → Exact (plain_rest r) after_equals (Made (plain_of (Some r)) PlainFits) line_follow
+pub plain_rest_exact : (r : List ℕ) → Exact (plain_rest r) after_equals (Made (plain_of (Some r)) PlainLineFits) line_follow
 unfolding plain_rest
-plain_rest_exact r = made_exact (plain_of (Some r)) (after operation (λ _. attachments)) (λ p. spell.operation p.0 ++ spell.attachments p.1) PlainFits (λ p. plain_follow p.0 p.1) after_equals line_follow
+plain_rest_exact r = made_exact (plain_of (Some r)) (after operation (λ _. attachments)) (λ p. spell.operation p.0 ++ spell.attachments p.1) PlainLineFits (λ p. plain_follow p.0 p.1) after_equals line_follow
     (attached_op_exact operation spell.operation DefiningFits operation_exact) (λ p f. refl) (λ p f. refl)

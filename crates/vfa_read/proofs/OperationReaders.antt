@@ -42,27 +42,27 @@ form_each _ = refl
 abbrev pub CallFits : Option (List ℕ) → Operation → Type 0
 CallFits m op = Made (over_of m) OverFits op ⊎ Made last_of (PlainFits m) op
 
-abbrev rest_spelling : Form → Operation → List Lexeme
-rest_spelling Form.Call op = words_spelling op
-rest_spelling Form.Tail op = word (codes "call") ∷ words_spelling op
-rest_spelling Form.Notail op = word (codes "call") ∷ words_spelling op
-rest_spelling _ op = after_word op
+abbrev form_rest_spelling : Form → Operation → List Lexeme
+form_rest_spelling Form.Call op = words_spelling op
+form_rest_spelling Form.Tail op = word (codes "call") ∷ words_spelling op
+form_rest_spelling Form.Notail op = word (codes "call") ∷ words_spelling op
+form_rest_spelling _ op = after_word op
 
-abbrev RestFits : Form → Operation → Type 0
-RestFits (Form.Binary bin) = Made (binary_of bin) (BinaryFits bin)
-RestFits Form.Compare = Made compare_of ComparedFits
-RestFits Form.Select = Made select_of SelectedFits
-RestFits (Form.Convert cast) = Made (convert_of cast) (CastFits cast)
-RestFits Form.Freeze = Made freeze_of TypedFits
-RestFits Form.Extract = Made extract_of ExtractedFits
-RestFits Form.Call = CallFits None
-RestFits Form.Tail = CallFits (Some (codes "tail"))
-RestFits Form.Notail = CallFits (Some (codes "notail"))
+abbrev FormRestFits : Form → Operation → Type 0
+FormRestFits (Form.Binary bin) = Made (binary_of bin) (BinaryFits bin)
+FormRestFits Form.Compare = Made compare_of ComparedFits
+FormRestFits Form.Select = Made select_of SelectedFits
+FormRestFits (Form.Convert cast) = Made (convert_of cast) (CastFits cast)
+FormRestFits Form.Freeze = Made freeze_of TypedFits
+FormRestFits Form.Extract = Made extract_of ExtractedFits
+FormRestFits Form.Call = CallFits None
+FormRestFits Form.Tail = CallFits (Some (codes "tail"))
+FormRestFits Form.Notail = CallFits (Some (codes "notail"))
 
 marked_exact : (m : List ℕ) → Exact (marked_call m) (λ op. word (codes "call") ∷ words_spelling op) (CallFits (Some m)) op_follow
 marked_exact m = skip_exact (the_word (codes "call")) (word (codes "call")) (call (Some m)) words_spelling (CallFits (Some m)) op_follow (word_exact (codes "call")) (call_exact (Some m))
 
-form_rest_exact : (f : Form) → Exact (form_rest f) (rest_spelling f) (RestFits f) op_follow
+form_rest_exact : (f : Form) → Exact (form_rest f) (form_rest_spelling f) (FormRestFits f) op_follow
 form_rest_exact (Form.Binary bin) = binary_exact bin
 form_rest_exact Form.Compare = compare_exact
 form_rest_exact Form.Select = select_exact
@@ -74,7 +74,7 @@ form_rest_exact Form.Tail = marked_exact (codes "tail")
 form_rest_exact Form.Notail = marked_exact (codes "notail")
 
 abbrev OpSpelled : Form → Operation → Type 0
-OpSpelled f op = spell.operation op ≡ word (form_word f) ∷ rest_spelling f op
+OpSpelled f op = spell.operation op ≡ word (form_word f) ∷ form_rest_spelling f op
 
 abbrev pub MarkedSpelled : Option (List ℕ) → Operation → Type 0
 MarkedSpelled m op = spell.operation op ≡ spell.optional_word m ++ (word (codes "call") ∷ words_spelling op)
@@ -90,15 +90,15 @@ callee_spelled m words w (Callee.Known (Intrinsic.Two fun)) op f = subst (Marked
 callee_spelled m words w (Callee.Known (Intrinsic.One fun)) op f = subst (MarkedSpelled m) f.is refl
 callee_spelled m words w (Callee.Other name) op f = subst (MarkedSpelled m) f.is (other_spelled (words_of m f.from.1) words (Some w) name f.from.0)
 
-plain_spelled : (m : Option (List ℕ)) (op : Operation) → Made last_of (PlainFits m) op → MarkedSpelled m op
-plain_spelled m op p =
+plain_marked : (m : Option (List ℕ)) (op : Operation) → Made last_of (PlainFits m) op → MarkedSpelled m op
+plain_marked m op p =
     let n = p.fits.1 in
     subst (MarkedSpelled m) p.is (subst (MarkedSpelled m) n.is (callee_spelled m p.from.0 n.from.0 n.from.1.0 n.from.1.1 n.fits.1.1))
 
 call_spelled : (m : Option (List ℕ)) (op : Operation) → CallFits m op → MarkedSpelled m op
-call_spelled m op f = ⊎_elim (λ o. subst (MarkedSpelled m) o.is refl) (λ p. plain_spelled m op p) f
+call_spelled m op f = ⊎_elim (λ o. subst (MarkedSpelled m) o.is refl) (λ p. plain_marked m op p) f
 
-form_spelled : (f : Form) (op : Operation) → RestFits f op → OpSpelled f op
+form_spelled : (f : Form) (op : Operation) → FormRestFits f op → OpSpelled f op
 form_spelled (Form.Binary bin) op m = subst (OpSpelled (Form.Binary bin)) m.is refl
 form_spelled Form.Compare op m = subst (OpSpelled Form.Compare) m.is refl
 form_spelled Form.Select op m = subst (OpSpelled Form.Select) m.is refl
@@ -110,13 +110,13 @@ form_spelled Form.Tail op m = call_spelled (Some (codes "tail")) op m
 form_spelled Form.Notail op m = call_spelled (Some (codes "notail")) op m
 
 abbrev FormedFits : Form × Operation → Type 0
-FormedFits p = Unit {0} × RestFits p.0 p.1
+FormedFits p = Unit {0} × FormRestFits p.0 p.1
 
 formed_exact : Exact operation spell.operation (Made formed FormedFits) op_follow
 unfolding operation
-formed_exact = made_exact formed (after (one (keyword_in form_word forms)) form_rest) (λ p. word (form_word p.0) ∷ rest_spelling p.0 p.1) FormedFits (λ p. op_follow p.1) spell.operation op_follow
-    (after_exact (one (keyword_in form_word forms)) form_rest (λ f. word (form_word f) ∷ []) (λ _. Unit {0}) anything rest_spelling RestFits (λ _ op. op_follow op)
-    (keyword_exact form_word forms form_each Form.Compare) (λ f _. form_rest_exact f) (λ a b rest f g m. may_anything a (rest_spelling a b ++ rest)))
+formed_exact = made_exact formed (after (one (keyword_in form_word forms)) form_rest) (λ p. word (form_word p.0) ∷ form_rest_spelling p.0 p.1) FormedFits (λ p. op_follow p.1) spell.operation op_follow
+    (after_exact (one (keyword_in form_word forms)) form_rest (λ f. word (form_word f) ∷ []) (λ _. Unit {0}) anything form_rest_spelling FormRestFits (λ _ op. op_follow op)
+    (keyword_exact form_word forms form_each Form.Compare) (λ f _. form_rest_exact f) (λ a b rest f g m. may_anything a (form_rest_spelling a b ++ rest)))
     (λ p f. form_spelled p.0 p.1 f.1) (λ p f. refl)
 
 -- what the grammar asks, of flags
@@ -276,7 +276,7 @@ IsDefining _ = ⊤
 abbrev pub DefiningFits : Operation → Type 0
 DefiningFits op = FitsOperation op × IsDefining op
 
-abbrev MarkerFits : Option (List ℕ) → Type 0
+abbrev pub MarkerFits : Option (List ℕ) → Type 0
 MarkerFits m = IfSome m (λ w. IsTrue (is_among w (codes "tail" ∷ codes "notail" ∷ [])))
 
 callee_to : (m : Option (List ℕ)) (words : List (List ℕ)) (w : ℕ) (c : Callee) (op : Operation) → MarkerFits m → AreWords call_words words → IsWidth w →
@@ -313,7 +313,7 @@ select_to (c, (width, (a, b))) (condition, (wide, (first, second))) = (condition
 convert_to : (cast : Cast) (p : List (List ℕ) × (ℕ × (Written × ℕ))) → CastFits cast p → FitsOperation (convert_of cast p)
 convert_to cast (words, (from, (a, to))) (known, (wide, (value, to_wide))) = (cast_fits_to cast words known, wide, value, to_wide)
 
-form_to : (f : Form) (op : Operation) → RestFits f op → DefiningFits op
+form_to : (f : Form) (op : Operation) → FormRestFits f op → DefiningFits op
 form_to (Form.Binary bin) op m = subst DefiningFits m.is (binary_to bin m.from m.fits, tt)
 form_to Form.Compare op m = subst DefiningFits m.is (compare_to m.from m.fits, tt)
 form_to Form.Select op m = subst DefiningFits m.is (select_to m.from m.fits, tt)
@@ -327,7 +327,7 @@ form_to Form.Notail op m = call_to (Some (codes "notail")) op (among_second (cod
 abbrev Formed : Operation → Type 0
 Formed = Made formed FormedFits
 
-by_form : (f : Form) (op : Operation) → RestFits f op → Formed op
+by_form : (f : Form) (op : Operation) → FormRestFits f op → Formed op
 by_form f op m = record { from = (f, op); fits = (tt, m); is = refl }
 
 by_marker : (op : Option (List ℕ) → Operation) → ((m : Option (List ℕ)) → CallFits m (op m)) → (m : Option (List ℕ)) → MarkerFits m → Formed (op m)

@@ -37,18 +37,18 @@ begins_whole p found b = begins_shorter (take p found) (drop p found) (subst Beg
 whole_begins : (found : List Lexeme) (s : Sentence) → IsSentence found s → BeginsSentence found
 whole_begins found s is = record { sentence = s; rest = []; is = subst (λ z. IsSentence z s) (sym (append-nil found)) is }
 
-data Compared (p q : ℕ) : Type 0 where
-  below : p < q → Compared p q
-  same : p ≡ q → Compared p q
-  above : q < p → Compared p q
+data Ordered (p q : ℕ) : Type 0 where
+  below : p < q → Ordered p q
+  same : p ≡ q → Ordered p q
+  above : q < p → Ordered p q
 
-compared : (p q : ℕ) → Compared p q
-compared zero zero = same refl
-compared zero (suc q) = below (omega arith)
-compared (suc p) zero = above (omega arith)
-compared (suc p) (suc q) = go (compared p q)
+ordered : (p q : ℕ) → Ordered p q
+ordered zero zero = same refl
+ordered zero (suc q) = below (omega arith)
+ordered (suc p) zero = above (omega arith)
+ordered (suc p) (suc q) = go (ordered p q)
   where
-    go : Compared p q → Compared (suc p) (suc q)
+    go : Ordered p q → Ordered (suc p) (suc q)
     go (below h) = below (omega (arith, h))
     go (same e) = same (ap suc e)
     go (above h) = above (omega (arith, h))
@@ -57,9 +57,9 @@ not_later : (found : List Lexeme) (p q : ℕ) → p < q → StopsAt found p → 
 not_later found p q h a b = a.stops (begins_before (suc p) q found (omega (arith, h)) b.begins)
 
 one_place : (found : List Lexeme) (p q : ℕ) → StopsAt found p → StopsAt found q → p ≡ q
-one_place found p q a b = go (compared p q)
+one_place found p q a b = go (ordered p q)
   where
-    go : Compared p q → p ≡ q
+    go : Ordered p q → p ≡ q
     go (below h) = absurd (not_later found p q h a b)
     go (same e) = e
     go (above h) = absurd (not_later found q p h b a)

@@ -172,8 +172,8 @@ ok_err : {s : Sentence} {n : ℕ} {rest : List Lexeme} → ◌≡◌ {A = Result
 ok_err e = cc
 
 -- what a sentence that begins so reads as
-begun : (prefix : List Lexeme) (b : Lexeme) (x : BeginsSentence (prefix ++ (b ∷ []))) → sentence (prefix ++ (b ∷ x.rest)) ≡ Ok (x.sentence, [])
-begun prefix b x = ap sentence (sym (append_assoc prefix (b ∷ []) x.rest)) ∙ read_whole ((prefix ++ (b ∷ [])) ++ x.rest) x.sentence x.is
+begun_sentence : (prefix : List Lexeme) (b : Lexeme) (x : BeginsSentence (prefix ++ (b ∷ []))) → sentence (prefix ++ (b ∷ x.rest)) ≡ Ok (x.sentence, [])
+begun_sentence prefix b x = ap sentence (sym (append_assoc prefix (b ∷ []) x.rest)) ∙ read_whole ((prefix ++ (b ∷ [])) ++ x.rest) x.sentence x.is
 
 stops_at : (found prefix : List Lexeme) (b : Lexeme) (rest : List Lexeme) → found ≡ prefix ++ (b ∷ rest) → BeginsSentence prefix → (BeginsSentence (prefix ++ (b ∷ [])) → ⊥) → StopsAt found (length prefix)
 stops_at found prefix b rest e begins bad = subst (λ z. StopsAt z (length prefix)) (sym e) (record {
@@ -190,7 +190,7 @@ stops_after found s l ls e =
     let fits = sentence_exact.fits found (l ∷ ls) s e in
     let bad : BeginsSentence (spell.spelling s ++ (l ∷ [])) → ⊥ = λ x. (
     let here = sentence_exact.again s (l ∷ x.rest) fits refl in
-    let no : [] ≡ l ∷ x.rest = ok_rest (x.sentence, []) (s, l ∷ x.rest) (sym (begun (spell.spelling s) l x) ∙ here) in
+    let no : [] ≡ l ∷ x.rest = ok_rest (x.sentence, []) (s, l ∷ x.rest) (sym (begun_sentence (spell.spelling s) l x) ∙ here) in
     cc) in
     stops_at found (spell.spelling s) l ls (sentence_exact.sound found (l ∷ ls) s e)
     (record { sentence = s; rest = []; is = record { fits = fits; spelled = sym (append-nil (spell.spelling s)) } }) bad
@@ -231,7 +231,7 @@ stops_before found n place size e = by_back c.back refl
         let left : length c.back ≡ suc n = c.left in
         absurd (omega arith)
     by_back (b ∷ rest) q =
-        let bad : BeginsSentence (c.prefix ++ (b ∷ [])) → ⊥ = λ x. ok_err (sym (begun c.prefix b x) ∙ c.firm b rest x.rest q) in
+        let bad : BeginsSentence (c.prefix ++ (b ∷ [])) → ⊥ = λ x. ok_err (sym (begun_sentence c.prefix b x) ∙ c.firm b rest x.rest q) in
         let whole : length found ≡ length (c.prefix ++ c.back) = ap length c.parts in
         let left : length c.back ≡ suc n = c.left in
         let here : length c.prefix ≡ place = omega (arith, length-append c.prefix c.back) in

@@ -88,14 +88,14 @@ closed_cases_exact w h = skip_exact (the_mark (byte "[")) (mark (byte "[")) (end
 abbrev pub SwitchFits : ℕ × Rest → Type 0
 SwitchFits (width, (on, (_, cases))) = IsWidth width × (FitsValue width on × (Unit {0} × CasesFit width cases))
 
-abbrev rest_spelling : ℕ → Rest → List Lexeme
-rest_spelling w q = spell.value q.0 ++ (mark (byte ",") ∷ (spell.target q.1.0 ++ (mark (byte "[") ∷ (flat_map (spell.switch_case w) q.1.1 ++ (mark (byte "]") ∷ [])))))
+abbrev switch_rest_spelling : ℕ → Rest → List Lexeme
+switch_rest_spelling w q = spell.value q.0 ++ (mark (byte ",") ∷ (spell.target q.1.0 ++ (mark (byte "[") ∷ (flat_map (spell.switch_case w) q.1.1 ++ (mark (byte "]") ∷ [])))))
 
 pub switch_exact : Exact switch after_terminator_word (Made switch_of SwitchFits) anything
 unfolding switch
 switch_exact = made_exact switch_of (after (one type_of) (λ width. after (one (value_of width)) (λ _. skip (the_mark (byte ",")) (after target (λ _. closed_cases width)))))
-    (λ p. spell.type p.0 ∷ rest_spelling p.0 p.1) SwitchFits anything after_terminator_word anything
-    (typed_exact (λ width. after (one (value_of width)) (λ _. skip (the_mark (byte ",")) (after target (λ _. closed_cases width)))) rest_spelling
+    (λ p. spell.type p.0 ∷ switch_rest_spelling p.0 p.1) SwitchFits anything after_terminator_word anything
+    (typed_exact (λ width. after (one (value_of width)) (λ _. skip (the_mark (byte ",")) (after target (λ _. closed_cases width)))) switch_rest_spelling
     (λ w q. FitsValue w q.0 × (Unit {0} × CasesFit w q.1.1))
     (λ w h. after_exact (one (value_of w)) (λ _. skip (the_mark (byte ",")) (after target (λ _. closed_cases w))) spell.value (FitsValue w) anything
     (λ _ q. mark (byte ",") ∷ (spell.target q.0 ++ (mark (byte "[") ∷ (flat_map (spell.switch_case w) q.1 ++ (mark (byte "]") ∷ []))))) (λ _ q. Unit {0} × CasesFit w q.1) (λ _ q. anything q) (value_exact w h)

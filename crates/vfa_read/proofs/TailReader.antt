@@ -190,9 +190,9 @@ closing_fits (suc n) =
 abbrev StopsTail : ℕ → List Lexeme → ℕ → Type 0
 StopsTail n ts k = Stops (tail_from n) (λ t. t) (TailFits n) ts k
 
-unfinished : (n : ℕ) (k : ℕ) → tail_end n [] ≡ Err k → StopsTail n [] k
-unfinished zero k e = let no = sym e in absurd (err_ok no)
-unfinished (suc n) k e =
+unfinished_tail : (n : ℕ) (k : ℕ) → tail_end n [] ≡ Err k → StopsTail n [] k
+unfinished_tail zero k e = let no = sym e in absurd (err_ok no)
+unfinished_tail (suc n) k e =
     let stopped : tail_end (suc n) [] ≡ Err 0 = (let z = not_zero n in rw z refl) in
     let same = err_same (sym stopped ∙ e) in
     record { prefix = []; back = []; parts = refl; left = same; value = closing (suc n); fits = closing_fits (suc n); more = closing (suc n); viable = refl; firm = λ b rest other h. cc }
@@ -224,7 +224,7 @@ later n m l ls k a h step s = record {
 }
 
 stops : (ts : List Lexeme) (n k : ℕ) → tail_from n ts ≡ Err k → StopsTail n ts k
-stops [] n k e = unfinished n k (sym (no_more n) ∙ e)
+stops [] n k e = unfinished_tail n k (sym (no_more n) ∙ e)
 stops (l ∷ ls) n k e = by_place (place_of l) refl (says l) n e (λ m q. stops ls m k q)
   where
     after_err : (r : Result (List Lexeme × List Lexeme) ℕ) → with_lexeme l r ≡ Err k → r ≡ Err k

@@ -85,24 +85,24 @@ entry_label_exact = optional_exact starts_label written_label None spell.block_l
 
 -- blocks
 
-abbrev Parts : Type 0
-Parts = Option (List ℕ) × (BlockLines × Terminator)
+abbrev BlockParts : Type 0
+BlockParts = Option (List ℕ) × (BlockLines × Terminator)
 
 abbrev pub block_follow : BasicBlock → Lexeme → Bool
 block_follow b = end_follow b.terminator
 
-abbrev rest_spelling : BlockLines × Terminator → List Lexeme
-rest_spelling q = block_lines_spelling q.0 ++ spell.terminator q.1
+abbrev block_rest_spelling : BlockLines × Terminator → List Lexeme
+block_rest_spelling q = block_lines_spelling q.0 ++ spell.terminator q.1
 
-abbrev RestFits : BlockLines × Terminator → Type 0
-RestFits q = BlockLinesFit q.0 × FitsTerminator q.1
+abbrev BlockRestFits : BlockLines × Terminator → Type 0
+BlockRestFits q = BlockLinesFit q.0 × FitsTerminator q.1
 
-pub block_rest_exact : Exact block_rest rest_spelling RestFits (λ q. end_follow q.1)
+pub block_rest_exact : Exact block_rest block_rest_spelling BlockRestFits (λ q. end_follow q.1)
 block_rest_exact = after_exact block_lines (λ _. terminator) block_lines_spelling BlockLinesFit block_lines_follow (λ _ t. spell.terminator t) (λ _ t. FitsTerminator t) (λ _ t. end_follow t)
     block_lines_exact (λ _ _. terminator_exact)
     (λ b t rest f g m. ap (may (block_lines_follow b)) (append_assoc (spell.terminator_kind t.kind) (spell.attachments t.attached) rest) ∙ end_joins (lines_in b) t.kind (spell.attachments t.attached ++ rest))
 
-pub block_spelled : (p : Parts) → spell.block (block_of p) ≡ spell.block_label p.0 ++ rest_spelling p.1
+pub block_spelled : (p : BlockParts) → spell.block (block_of p) ≡ spell.block_label p.0 ++ block_rest_spelling p.1
 block_spelled p =
     let phis = flat_map spell.phi p.1.0.phis in
     ap (λ z. spell.block_label p.0 ++ z) (sym (append_assoc phis (flat_map spell.instruction p.1.0.instructions) (spell.terminator p.1.1)))
@@ -110,8 +110,8 @@ block_spelled p =
 module _ (label_reader : Reader (Option (List ℕ))) (FL : Option (List ℕ) → Type 0) (fl : Option (List ℕ) → Lexeme → Bool)
     (el : Exact label_reader spell.block_label FL fl)
     (joins : (o : Option (List ℕ)) (b : BlockLines) (t : Terminator) (rest : List Lexeme) → FL o → BlockLinesFit b → may (fl o) ((block_lines_spelling b ++ spell.terminator t) ++ rest) ≡ true) where
-  abbrev PartsFit : Parts → Type 0
-  PartsFit p = FL p.0 × RestFits p.1
+  abbrev PartsFit : BlockParts → Type 0
+  PartsFit p = FL p.0 × BlockRestFits p.1
 
   abbrev BlockFits : BasicBlock → Type 0
   BlockFits b = FL b.label × FitsBlock b
@@ -119,8 +119,8 @@ module _ (label_reader : Reader (Option (List ℕ))) (FL : Option (List ℕ) →
   block_exact : Exact (block_with label_reader) spell.block BlockFits block_follow
   unfolding block_with
   block_exact = fits_exact (made block_of (after label_reader (λ _. block_rest))) spell.block (Made block_of PartsFit) BlockFits block_follow
-      (made_exact block_of (after label_reader (λ _. block_rest)) (λ p. spell.block_label p.0 ++ rest_spelling p.1) PartsFit (λ p. end_follow p.1.1) spell.block block_follow
-      (after_exact label_reader (λ _. block_rest) spell.block_label FL fl (λ _ q. rest_spelling q) (λ _ q. RestFits q) (λ _ q. end_follow q.1)
+      (made_exact block_of (after label_reader (λ _. block_rest)) (λ p. spell.block_label p.0 ++ block_rest_spelling p.1) PartsFit (λ p. end_follow p.1.1) spell.block block_follow
+      (after_exact label_reader (λ _. block_rest) spell.block_label FL fl (λ _ q. block_rest_spelling q) (λ _ q. BlockRestFits q) (λ _ q. end_follow q.1)
       el (λ _ _. block_rest_exact) (λ o q rest f g m. joins o q.0 q.1 rest f g.0))
       (λ p f. block_spelled p) (λ p f. refl))
       (λ b m. subst BlockFits m.is (m.fits.0, record { phis = m.fits.1.0.phis; instructions = m.fits.1.0.instructions; terminator = m.fits.1.1 }))

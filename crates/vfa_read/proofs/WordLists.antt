@@ -83,14 +83,14 @@ no_word [] rest x e = cc
 no_word (word w ∷ ts) rest x e = cc
 no_word (_ ∷ ts) rest x e = cc
 
-none_repeated : (texts : List (List ℕ)) (n : ℕ) (ts : List Lexeme) → next_passes (is_word_among texts) ts ≡ false →
+none_more : (texts : List (List ℕ)) (n : ℕ) (ts : List Lexeme) → next_passes (is_word_among texts) ts ≡ false →
     repeated {S = Unit {0}} (is_word_among texts) (λ _. one (word_among texts)) same_state n tt ts ≡ Ok ([], ts)
-none_repeated texts zero ts t = refl
-none_repeated texts (suc n) ts t = rw t refl
+none_more texts zero ts t = refl
+none_more texts (suc n) ts t = rw t refl
 
 pub words_done : (texts : List (List ℕ)) (ts : List Lexeme) → next_passes (is_word_among texts) ts ≡ false → words_among texts ts ≡ Ok ([], ts)
 unfolding words_among
-words_done texts ts t = none_repeated texts (length ts) ts t
+words_done texts ts t = none_more texts (length ts) ts t
 
 pub words_item : (texts : List (List ℕ)) (ts rest : List Lexeme) (x : List ℕ) → next_passes (is_word_among texts) ts ≡ true → one (word_among texts) ts ≡ Ok (x, rest) → words_among texts ts ≡ (words_among texts rest >>= λ q. Ok (x ∷ q.0, q.1))
 words_item [] ts rest x t e = absurd (no_words ts t)

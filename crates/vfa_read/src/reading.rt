@@ -53,14 +53,17 @@ fn resolved(
     ensures refused { IfErr result (λ e. (e ≡ Memory) ⊎ IsReason bytes.now tokens.now e) }
 {
     let header = &written.header;
+    let lead = header.lead.as_slice();
+    let parameters = header.parameters.as_slice();
+    let blocks = written.blocks.as_slice();
     let function = function_of(
         alloc,
         &header.name,
-        header.lead.as_slice(),
+        lead,
         header.width,
         tail_bytes(bytes, tokens, written.tail_start, written.tail_end),
-        header.parameters.as_slice(),
-        written.blocks.as_slice(),
+        parameters,
+        blocks,
     )?;
     Ok(ReadFunction {
         function,

@@ -1,3 +1,5 @@
+//! Tests of the reader: what it accepts, its exact reasons, and the names of tokens.
+
 use super::*;
 use std::alloc::{AllocError, Global};
 use vfa_ir::{Kind, Outside};

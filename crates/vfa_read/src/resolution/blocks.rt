@@ -82,8 +82,10 @@ impl SymbolTable {
         ensures calls { IfOk result (λ _. calls.new.items ≡ calls.old.items ++ block_calls self.now block.now) }
     {
         let name = kept_option(alloc, &block.label)?;
-        let phis = self.phis(alloc, block.phis.as_slice())?;
-        let insts = self.instructions(alloc, calls, block.instructions.as_slice())?;
+        let nodes = block.phis.as_slice();
+        let phis = self.phis(alloc, nodes)?;
+        let instructions = block.instructions.as_slice();
+        let insts = self.instructions(alloc, calls, instructions)?;
         let term = self.terminator(alloc, &block.terminator.kind)?;
         Ok(Block {
             name,

@@ -13,4 +13,4 @@ returns c =
     ∙ whole_text (header (tree_with names f)) (tail_text f.tail) (blocks_text (blocks_tree names f.calls 0 f.blocks)) c.new-w.result
     c.push_header.new.w.text c.push_tail.new.w.text c.bytes-2.new.self.text c.push_blocks.new.w.text c.bytes-3.new.self.text
     c.new-w.ensures (ap (λ d. d.text) c.in_ok-push_header.ensures) (c.in_ok-push_tail.ensures ∙ ap (λ t. c.push_header.new.w.text ++ tail_text t) c.bytes.ensures) (ap (λ d. d.text) c.in_ok-bytes.ensures)
-    (c.in_ok-push_blocks.ensures ∙ ap₂ (λ cs bs. c.bytes-2.new.self.text ++ blocks_text (blocks_tree names cs 0 bs)) c.as_slice.ensures c.as_slice-2.ensures) (ap (λ d. d.text) c.in_ok-bytes-2.ensures)
+    (c.in_ok-push_blocks.ensures ∙ ap₂ (λ cs bs. c.bytes-2.new.self.text ++ blocks_text (blocks_tree names cs 0 bs)) c.as_slice-calls.ensures c.as_slice-blocks.ensures) (ap (λ d. d.text) c.in_ok-bytes-2.ensures)
