@@ -6,6 +6,7 @@ mod EachStep
 mod EdgeCounts
 mod Firsts
 mod HeadMarks
+mod IdsInOrder
 mod ItemLines
 mod OneOrder
 mod OneRefusal

@@ -36,7 +36,7 @@ place_within names name some = at (ltb (position_or_len (bytes_eq name) names) (
     at false h = some
 
 -- as many names as values
-parameters_named : (k : ℕ) (ps : List Parameter) → length (parameter_names k ps) ≡ length ps
+pub parameters_named : (k : ℕ) (ps : List Parameter) → length (parameter_names k ps) ≡ length ps
 parameters_named k [] = refl
 parameters_named k (p ∷ ps) = ap suc (parameters_named (cond (is_numbered p) (k + 1) k) ps)
 

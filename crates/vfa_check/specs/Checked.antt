@@ -1,9 +1,11 @@
 -- The functions that may be checked, and what is known of those that were.
-use Rattle.std.specs.Prelude.{◌≤◌, ◌^◌, length}
+use Rattle.std.specs.Prelude.{◌≡◌, ◌≤◌, ◌^◌, length, nat_eq}
+use Rattle.std.specs.List.{IsDistinct, range_with_len}
 use Rattle.vfa_ir.specs.declared.functions.Function.{Function}
 use Rattle.vfa_ir.specs.declared.functions.Lines.{Lines}
 use Rattle.vfa_ir.specs.Defined.{Defined}
 use Rattle.vfa_ir.specs.PhisFit.{PhisFit}
+use Rattle.vfa_ir.specs.Printable.{ids_of}
 use Rattle.vfa_ir.specs.Reads.{Fit}
 use Rattle.vfa_ir.specs.Typed.{Typed}
 use Rattle.vfa_cfg.specs.Sizes.{HasFewBlocks}
@@ -28,10 +30,12 @@ pub record IsWellFormed (f : Function) : Type 0 where
   pub phis : PhisFit f
   pub defined : Defined f
 
--- What is known of a function that was checked: some text reads as it, so each of its names is defined once; its ids are
--- in range; and it is well formed.
+-- What is known of a function that was checked: some text reads as it; its ids are in range; each value is defined once,
+-- and in the order of the values; and it is well formed.
 pub record IsChecked (f : Function) : Type 0 where
   pub fit : Fit f
   pub small : IsSmall f
   pub within : IsWithin f
+  pub once : IsDistinct nat_eq (ids_of f)
+  pub in_order : ids_of f ≡ range_with_len 0 (length f.values)
   pub formed : IsWellFormed f

@@ -20,7 +20,7 @@ ghost use Rattle.vfa_ir.specs.declared.operations.BlockId.{BlockId};
 ghost use Rattle.vfa_ir.specs.declared.reasons.Outside.TheVariants.{Memory};
 
 use crate::head_marks::{head_marks, mark_at};
-use crate::laws::fit_is_within;
+use crate::laws::{fit_defines_once, fit_is_within};
 use crate::phis::first_misfit;
 use crate::scopes::Scopes;
 use crate::types::ill_typed_line;
@@ -58,7 +58,7 @@ impl Model for Checked {
 }
 
 impl Checked {
-    /// The function. Some text reads as it, its ids are in range, and it is well formed.
+    /// The function. Some text reads as it, its ids are in range, each value is defined once, and it is well formed.
     pub fn function(&self) -> &Function
         ensures same { result.now ≡ self.now }
         ensures checked { IsChecked self.now }
@@ -176,6 +176,7 @@ pub fn check(alloc: Global, f: Function, lines: &Lines) -> Result<Checked, Outsi
     ensures refused { IfErr result (λ e. (e ≡ Memory) ⊎ IsRefusal f lines.now e) }
 {
     fit_is_within();
+    fit_defines_once();
     let parts = parts_of(alloc, &f, lines)?;
     Ok(Checked { function: f, parts })
 }

@@ -1,9 +1,11 @@
 //! Laws of the functions that are checked.
 
-ghost use Rattle.std.specs.Prelude.{◌≡◌, ℕ, List};
+ghost use Rattle.std.specs.Prelude.{◌≡◌, ℕ, List, length, nat_eq};
+ghost use Rattle.std.specs.List.{IsDistinct, range_with_len};
 ghost use Rattle.vfa_check.specs.Checked.{IsWellFormed, MayBeChecked};
 ghost use Rattle.vfa_check.specs.Refusals.{IsRefusal};
 ghost use Rattle.vfa_check.specs.Within.{IsWithin};
+ghost use Rattle.vfa_ir.specs.Printable.{ids_of};
 ghost use Rattle.vfa_ir.specs.Reads.{Fit, IsAccepted};
 ghost use Rattle.vfa_ir.specs.Tokens.{tokens_of};
 ghost use Rattle.vfa_ir.specs.declared.functions.Function.{Function};
@@ -14,6 +16,12 @@ ghost use Rattle.vfa_ir.specs.declared.reasons.Outside.{Outside};
 /// among its values.
 pub fn fit_is_within()
     ensures { (f : Function) → Fit f → IsWithin f }
+{}
+
+/// Its values are defined once, in the order of the values.
+pub fn fit_defines_once()
+    ensures once { (f : Function) → Fit f → IsDistinct nat_eq (ids_of f) }
+    ensures in_order { (f : Function) → Fit f → ids_of f ≡ range_with_len 0 (length f.values) }
 {}
 
 /// The function and the lines that a text within the limits reads as may be checked.

@@ -22,4 +22,6 @@ mod types;
 mod uses;
 
 pub use checking::{Checked, check};
-pub use laws::{accepted_may_be_checked, fit_is_within, one_refusal, refused_is_ill_formed};
+pub use laws::{
+    accepted_may_be_checked, fit_defines_once, fit_is_within, one_refusal, refused_is_ill_formed,
+};
