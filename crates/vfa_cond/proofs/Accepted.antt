@@ -1,7 +1,7 @@
 -- The equations of a function that some text reads as, and that is well typed, are typed.
-use Rattle.std.proofs.Common.{◌≡◌, ◌<◌, ◌≤◌, ◌+◌, ◌-◌, ℕ, zero, suc, Bool, true, false, not, ◌&&◌, nat_eq, if◌then◌else◌, Option, Some, None, List, [], ◌∷◌, ◌++◌, map, length, take, drop, All, slice_get, refl, sym, ◌∙◌, ap, subst, arith, eqb-true, add-one, add_assoc, add-suc, add-zero}
+use Rattle.std.proofs.Common.{◌≡◌, ◌≤◌, ◌+◌, ◌-◌, ℕ, zero, suc, Bool, true, false, not, if◌then◌else◌, Option, Some, None, List, [], ◌∷◌, ◌++◌, map, length, take, drop, All, slice_get, refl, sym, ◌∙◌, ap, subst, arith, eqb-true, add-zero}
 use Rattle.std.specs.Option.{ForSome, option_map_or}
-use Rattle.std.specs.List.{AllZip, cons_option, filter_map, flat_map, range_with_len}
+use Rattle.std.specs.List.{AllZip, cons_option, flat_map, range_with_len}
 use Rattle.std.proofs.lemmas.List.Elements.{All-head, All-tail}
 use Rattle.vfa_ir.specs.declared.operations.Op.{Op}
 use Rattle.vfa_ir.specs.declared.operations.Ty.{Ty}
@@ -11,12 +11,11 @@ use Rattle.vfa_ir.specs.declared.functions.Function.{Function}
 use Rattle.vfa_ir.specs.declared.functions.Inst.{Inst}
 use Rattle.vfa_ir.specs.declared.functions.Phi.{Phi}
 use Rattle.vfa_ir.specs.declared.functions.Value.{Value}
-use Rattle.vfa_ir.specs.Printable.{IsPrintable, PrintableInst, PrintableBlock, PrintableOp, op_type, ids_of, block_ids, inst_ids, block_types, inst_types}
-use Rattle.vfa_ir.specs.Typed.{Typed, TypedBlock, TypedInst, TypedOp}
+use Rattle.vfa_ir.specs.Printable.{IsPrintable, PrintableOp, op_type, block_ids, inst_ids, block_types, inst_types}
+use Rattle.vfa_ir.specs.Typed.{Typed, TypedOp}
 use Rattle.vfa_mean.specs.Moments.{is_call}
-use Rattle.vfa_mean.specs.Outcomes.{type_of}
-use Rattle.vfa_cond.specs.Conditions.{name_type, IsTypedEquation, HasTypedEquations}
-use Rattle.vfa_cond.specs.Equations.{is_result, is_definition, equation_among, or_else, equation_in, equation}
+use Rattle.vfa_cond.specs.Conditions.{name_type, HasTypedEquations}
+use Rattle.vfa_cond.specs.Equations.{is_result, is_definition, equation_among, or_else, equation_in}
 use Rattle.vfa_cond.specs.TypedLines.{IsTypedLine}
 use Rattle.vfa_cond.proofs.Fitting.{and_second}
 

@@ -5,24 +5,22 @@ use Rattle.vfa_ir.specs.declared.operations.Bin.{Bin}
 use Rattle.vfa_ir.specs.declared.operations.Cast.{Cast}
 use Rattle.vfa_ir.specs.declared.operations.Op.{Op}
 use Rattle.vfa_ir.specs.declared.operations.Operand.{Operand}
-use Rattle.vfa_ir.specs.declared.operations.Pred.{Pred}
 use Rattle.vfa_ir.specs.declared.operations.Ty.{Ty}
 use Rattle.vfa_ir.specs.declared.operations.ValueId.{ValueId}
 use Rattle.vfa_ir.specs.declared.functions.Function.{Function}
 use Rattle.vfa_ir.specs.declared.functions.Value.{Value}
 use Rattle.vfa_ir.specs.Grammar.{IsWidth as IsWrittenWidth}
-use Rattle.vfa_ir.specs.Printable.{op_type, IsOperand, AreOperands}
-use Rattle.vfa_ir.specs.Typed.{HasType, IsOfType, AreOfWidth}
+use Rattle.vfa_ir.specs.Printable.{AreOperands}
+use Rattle.vfa_ir.specs.Typed.{HasType, AreOfWidth}
 use Rattle.vfa_word.specs.Numbers.{IsWidth}
 use Rattle.vfa_mean.specs.Outcomes.{type_of}
 use Rattle.vfa_values.specs.Answers.{Answers}
 use Rattle.vfa_values.specs.Conditions.{IsOf}
 use Rattle.vfa_values.specs.Laws.{AreTyped}
-use Rattle.vfa_cond.specs.declared.want.Want.{Want}
 use Rattle.vfa_cond.specs.declared.consequence.BesideLiteral.{BesideLiteral}
 use Rattle.vfa_cond.specs.declared.consequence.Consequence.{Consequence}
 use Rattle.vfa_cond.specs.Conditions.{name_type, IsTypedEquation, IsNumberOperand, FitsConsequence, AreFacts}
-use Rattle.vfa_cond.specs.Consequences.{beside_literal, is_literal, equal_bit, from_sum, of_sum, both_true, from_mask, and_by, of_and, of_or, from_not, of_xor, from_number, of_binary, of_conversion, of_comparison, of_select, consequence_of}
+use Rattle.vfa_cond.specs.Consequences.{beside_literal, is_literal, equal_bit, from_sum, and_by, from_not, from_number, of_binary, of_conversion, of_select, consequence_of}
 use Rattle.vfa_cond.specs.Narrowing.{operand_fact}
 use Rattle.vfa_cond.specs.States.{AbstractState}
 use Rattle.vfa_cond.specs.Wants.{IsWantFor}

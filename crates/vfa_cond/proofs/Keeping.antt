@@ -1,5 +1,5 @@
 -- That narrowing keeps the types of facts, and how its steps are put together.
-use Rattle.std.proofs.Common.{◌≡◌, ◌<◌, ◌^◌, ℕ, zero, suc, Bool, true, false, nat_eq, if◌then◌else◌, Option, Some, None, IsTrue, refl, sym, ap, ◌∙◌, subst, eqb-true, arith, ◌-◌, sub-one}
+use Rattle.std.proofs.Common.{◌≡◌, ℕ, zero, suc, Bool, true, false, nat_eq, if◌then◌else◌, Option, Some, None, refl, sym, subst, eqb-true, arith, ◌-◌, sub-one}
 use Rattle.std.specs.Option.{ForSome}
 use Rattle.vfa_ir.specs.declared.operations.Op.{Op}
 use Rattle.vfa_ir.specs.declared.operations.Ty.{Ty}
@@ -11,7 +11,7 @@ use Rattle.vfa_cond.specs.declared.want.Want.{Want}
 use Rattle.vfa_cond.specs.Conditions.{name_type, AreFacts}
 use Rattle.vfa_cond.specs.Consequences.{consequence_of}
 use Rattle.vfa_cond.specs.Equations.{equation}
-use Rattle.vfa_cond.specs.Narrowing.{Change, Narrowing, and_then, Becomes, live_equation, followed, narrowed, carried_out}
+use Rattle.vfa_cond.specs.Narrowing.{Change, and_then, Becomes, live_equation, followed, narrowed, carried_out}
 use Rattle.vfa_cond.specs.States.{AbstractState, with_fact}
 use Rattle.vfa_cond.specs.Wants.{kept, IsWantFor}
 

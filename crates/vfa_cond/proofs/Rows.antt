@@ -1,26 +1,19 @@
 -- What a fact says of the operands of an equation holds of their values: one lemma for each kind of operation.
-use Rattle.std.proofs.Common.{◌≡◌, ◌<◌, ◌+◌, ◌%◌, ◌^◌, ℕ, zero, suc, Bool, true, false, not, ◌&&◌, nat_eq, if◌then◌else◌, Option, Some, None, IsTrue, bit_and, bit_or, bit_xor, pos, refl, sym, ◌∙◌, ap, subst, eqb-true, eq-eqb, arith, lit<, add_comm, ◌⊎◌, inl, inr}
+use Rattle.std.proofs.Common.{◌≡◌, ◌<◌, ◌%◌, ◌^◌, ℕ, zero, suc, Bool, true, false, not, nat_eq, if◌then◌else◌, Some, IsTrue, bit_and, bit_or, bit_xor, refl, sym, ◌∙◌, ap, subst, eqb-true, eq-eqb, arith}
 use Rattle.std.specs.Option.{ForSome}
 use Rattle.std.specs.Int.Bits.{and_self}
 use Rattle.std.proofs.Math.Nat.{mod-mod}
-use Rattle.std.proofs.lemmas.Nat.{and_comm, and_assoc, xor_comm, le_or_l, le_or_r, and_mask}
+use Rattle.std.proofs.lemmas.Nat.{and_assoc, le_or_l, and_mask}
 use Rattle.std.proofs.lemmas.Bool.Decides.{nat_tests}
-use Rattle.vfa_ir.specs.declared.operations.Bin.{Bin}
-use Rattle.vfa_ir.specs.declared.operations.Cast.{Cast}
-use Rattle.vfa_ir.specs.declared.operations.CastFlags.{CastFlags}
-use Rattle.vfa_ir.specs.declared.operations.Flags.{Flags}
-use Rattle.vfa_ir.specs.declared.operations.Op.{Op}
 use Rattle.vfa_ir.specs.declared.operations.Operand.{Operand}
 use Rattle.vfa_ir.specs.declared.operations.Pred.{Pred}
-use Rattle.vfa_ir.specs.declared.operations.Ty.{Ty}
 use Rattle.vfa_ir.specs.Predicates.{by_order}
-use Rattle.vfa_word.specs.declared.arith.Arith.{Arith}
 use Rattle.vfa_word.specs.Operations.{equal, unsigned_less, signed_less}
 use Rattle.vfa_mean.specs.declared.value.Done.{Done}
 use Rattle.vfa_mean.specs.declared.value.Val.{Val}
 use Rattle.vfa_mean.specs.Values.{Env, operand_value}
-use Rattle.vfa_mean.specs.Meaning.{Gave, Gives, Allowed, done, of_one, of_two, binary, chosen}
-use Rattle.vfa_mean.specs.Rows.{number_unless, arithmetic, bitwise_and, bitwise_or, bitwise_xor, compare, bit_of, convert}
+use Rattle.vfa_mean.specs.Meaning.{Gave, Allowed, of_one, of_two}
+use Rattle.vfa_mean.specs.Rows.{number_unless}
 use Rattle.vfa_cond.specs.declared.consequence.BesideLiteral.{BesideLiteral}
 use Rattle.vfa_cond.specs.Opposites.{negated, exchanged}
 use Rattle.vfa_cond.specs.Consequences.{beside_literal, is_literal}

@@ -1,5 +1,5 @@
 -- Narrowing keeps truth: where a state is true of some values and the condition is met by them, so is the narrowed state.
-use Rattle.std.proofs.Common.{◌≡◌, ◌<◌, ◌+◌, ◌%◌, ◌^◌, ◌≤◌, ℕ, zero, suc, Bool, true, false, not, ◌&&◌, nat_eq, if◌then◌else◌, Option, Some, None, is_some, IsTrue, IsSomeAnd, bit_and, bit_or, bit_xor, pos, refl, sym, ◌∙◌, ap, subst, eqb-true, eq-eqb, arith, lit<, add_comm}
+use Rattle.std.proofs.Common.{◌≡◌, ◌<◌, ◌+◌, ◌%◌, ◌^◌, ◌≤◌, ℕ, zero, suc, Bool, true, false, ◌&&◌, nat_eq, if◌then◌else◌, Option, Some, None, is_some, IsTrue, IsSomeAnd, bit_and, bit_or, bit_xor, refl, sym, ◌∙◌, ap, subst, eqb-true, eq-eqb, arith, lit<, add_comm}
 use Rattle.std.specs.Option.{ForSome}
 use Rattle.std.proofs.lemmas.Nat.{and_comm, xor_comm, le_or_r}
 use Rattle.vfa_ir.specs.declared.operations.Bin.{Bin}
@@ -14,11 +14,10 @@ use Rattle.vfa_ir.specs.declared.functions.Function.{Function}
 use Rattle.vfa_ir.specs.Predicates.{by_order}
 use Rattle.vfa_word.specs.declared.arith.Arith.{Arith}
 use Rattle.vfa_word.specs.Operations.{equal, unsigned_less, signed_less}
-use Rattle.vfa_mean.specs.declared.value.Done.{Done}
 use Rattle.vfa_mean.specs.declared.value.Val.{Val}
 use Rattle.vfa_mean.specs.Values.{Env, operand_value}
-use Rattle.vfa_mean.specs.Meaning.{Gave, Gives, Allowed, done, of_one, of_two, chosen}
-use Rattle.vfa_mean.specs.Rows.{number_unless, arithmetic, bitwise_and, bitwise_or, bitwise_xor, compare, bit_of, convert}
+use Rattle.vfa_mean.specs.Meaning.{Gave, Gives, Allowed, done, chosen}
+use Rattle.vfa_mean.specs.Rows.{arithmetic, bitwise_and, bitwise_or, bitwise_xor, compare, bit_of, convert}
 use Rattle.vfa_values.specs.Answers.{Answers}
 use Rattle.vfa_values.specs.Conditions.{IsOf, IsInteger, width_of}
 use Rattle.vfa_values.specs.Laws.{AreTyped, AreSound}
@@ -26,16 +25,16 @@ use Rattle.vfa_cond.specs.declared.want.Want.{Want}
 use Rattle.vfa_cond.specs.declared.consequence.BesideLiteral.{BesideLiteral}
 use Rattle.vfa_cond.specs.declared.consequence.Consequence.{Consequence}
 use Rattle.vfa_cond.specs.Conditions.{name_type, IsTypedEquation, HasTypedEquations, IsNumberOperand, AreFacts, FitsConsequence}
-use Rattle.vfa_cond.specs.Consequences.{beside_literal, is_literal, equal_bit, from_sum, both_true, from_mask, and_by, of_or, from_not, from_number, of_binary, of_conversion, of_comparison, of_select, consequence_of}
+use Rattle.vfa_cond.specs.Consequences.{beside_literal, is_literal, equal_bit, from_sum, and_by, of_or, from_not, from_number, of_binary, of_conversion, of_comparison, of_select, consequence_of}
 use Rattle.vfa_cond.specs.Equations.{equation}
-use Rattle.vfa_cond.specs.Narrowing.{Change, Narrowing, and_then, operand_fact, narrowed_operand, held_with, held, narrowed_both, carried_out, live_equation, by_equation, kept_by, narrowed_by, followed, narrowed, Becomes}
+use Rattle.vfa_cond.specs.Narrowing.{Change, Narrowing, and_then, operand_fact, narrowed_operand, held_with, held, carried_out, live_equation, by_equation, kept_by, narrowed_by, followed, narrowed, Becomes}
 use Rattle.vfa_cond.specs.Opposites.{negated, exchanged}
 use Rattle.vfa_cond.specs.States.{AbstractState, with_fact}
-use Rattle.vfa_cond.specs.Truth.{IsTrueState, IsWantedValue, HoldsBetween}
+use Rattle.vfa_cond.specs.Truth.{IsTrueState, HoldsBetween}
 use Rattle.vfa_cond.specs.Wants.{IsWanted, IsWantFor, kept}
 use Rattle.vfa_cond.proofs.Fitting.{bit_width, when, and_first, and_second, consequence_fits, operand_typed, has_type}
 use Rattle.vfa_cond.proofs.Keeping.{with_facts, kept_typed}
-use Rattle.vfa_cond.proofs.Rows.{number_in, equal_holds, negated_holds, exchanged_holds, and_one, or_zero, opposite_bit, and_twice, low_bit, unless_number, OfOne, of_one_number, OfTwo, of_two_number, IsBeside, beside_true, literal_is}
+use Rattle.vfa_cond.proofs.Rows.{number_in, equal_holds, negated_holds, exchanged_holds, and_one, or_zero, opposite_bit, and_twice, low_bit, unless_number, of_one_number, of_two_number, IsBeside, beside_true, literal_is}
 
 -- a choice that is a fact in either case
 either : {A : Type 0} (P : A → Type 0) (b : Bool) (x y : A) → (b ≡ true → P x) → (b ≡ false → P y) → P (if b then x else y)

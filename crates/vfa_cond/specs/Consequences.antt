@@ -1,6 +1,6 @@
 -- What a fact of a name says of the operands of its equation (LLVM's LazyValueInfo, getValueFromCondition and its kin). The
 -- words of the operation do not matter: where one is broken the result is poison, and then the name has no number.
-use Rattle.std.specs.Prelude.{ℕ, Bool, true, false, not, ◌&&◌, nat_eq, Option, Some, None, bit_and, if◌then◌else◌}
+use Rattle.std.specs.Prelude.{ℕ, Bool, false, ◌&&◌, nat_eq, Option, Some, None, bit_and, if◌then◌else◌}
 use Rattle.vfa_ir.specs.declared.operations.Bin.{Bin}
 use Rattle.vfa_ir.specs.declared.operations.Cast.{Cast}
 use Rattle.vfa_ir.specs.declared.operations.Op.{Op}

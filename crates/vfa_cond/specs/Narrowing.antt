@@ -3,7 +3,7 @@
 -- done to them alike, through at most so many equations one behind the other. A state that no values meet is no state.
 --
 -- In `%x = add i8 %a, 1`, `%c = icmp ult i8 %x, 10`, to narrow `%c` by `eq 1` makes `%x` less than 10 and `%a` 255 to 8.
-use Rattle.std.specs.Prelude.{◌≡◌, ℕ, zero, suc, Bool, true, false, nat_eq, if◌then◌else◌, Option, Some, None, is_some}
+use Rattle.std.specs.Prelude.{◌≡◌, ℕ, zero, suc, Bool, true, false, if◌then◌else◌, Option, Some, None, is_some}
 use Rattle.vfa_ir.specs.declared.operations.Op.{Op}
 use Rattle.vfa_ir.specs.declared.operations.Operand.{Operand}
 use Rattle.vfa_ir.specs.declared.operations.Pred.{Pred}

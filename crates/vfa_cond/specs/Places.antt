@@ -1,6 +1,6 @@
 -- helper: in no public contract
 -- The place of a name among the names that have a fact.
-use Rattle.std.specs.Prelude.{ℕ, suc, Bool, nat_lt, nat_eq, if◌then◌else◌, Option, Some, None, List, [], ◌∷◌}
+use Rattle.std.specs.Prelude.{ℕ, suc, nat_lt, nat_eq, if◌then◌else◌, Option, Some, None, List, [], ◌∷◌}
 use Rattle.vfa_cond.specs.declared.state.Entry.{Entry}
 
 -- how many names stand before the name: the place where it stands, or where it would

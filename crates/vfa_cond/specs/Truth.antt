@@ -1,13 +1,12 @@
 -- When a state is true of the values that names have.
 use Rattle.std.specs.Prelude.{◌≡◌, ℕ, true, IsTrue}
 use Rattle.std.specs.Option.{ForSome}
-use Rattle.vfa_ir.specs.declared.operations.Operand.{Operand}
 use Rattle.vfa_ir.specs.declared.operations.Pred.{Pred}
 use Rattle.vfa_ir.specs.declared.functions.Function.{Function}
 use Rattle.vfa_ir.specs.Predicates.{by_order}
 use Rattle.vfa_word.specs.Operations.{equal, unsigned_less, signed_less}
 use Rattle.vfa_mean.specs.declared.value.Val.{Val}
-use Rattle.vfa_mean.specs.Values.{Env, operand_value}
+use Rattle.vfa_mean.specs.Values.{Env}
 use Rattle.vfa_mean.specs.Meaning.{Gave, Gives}
 use Rattle.vfa_cond.specs.declared.want.Want.{Want}
 use Rattle.vfa_cond.specs.Equations.{equation}

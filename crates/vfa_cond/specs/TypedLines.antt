@@ -1,6 +1,6 @@
 -- helper: in no public contract
 -- Functions each of whose instructions is typed.
-use Rattle.std.specs.Prelude.{◌≡◌, All}
+use Rattle.std.specs.Prelude.{◌≡◌}
 use Rattle.std.specs.Option.{ForSome}
 use Rattle.vfa_ir.specs.declared.functions.Function.{Function}
 use Rattle.vfa_ir.specs.declared.functions.Inst.{Inst}

@@ -1,11 +1,10 @@
-use Rattle.std.proofs.Common.{◌≡◌, true, sym, ap, ◌∙◌, subst, arith, rules}
-use Rattle.vfa_ir.specs.declared.operations.Ty.{Ty}
+use Rattle.std.proofs.Common.{sym, ◌∙◌, subst, rules}
 use Rattle.vfa_values.specs.Conditions.{IsInteger}
 use Rattle.vfa_cond.specs.Conditions.{AreFacts}
 use Rattle.vfa_cond.specs.States.{known}
 use Rattle.vfa_cond.specs.Wants.{IsWantFor}
 use Rattle.vfa_cond.proofs.Fitting.{consequence_fits, operand_typed}
-use Rattle.vfa_cond.proofs.Keeping.{becomes_some, stops, goes_on, not_live, live_is, follows_nothing, follows_last, follows_by, with_facts, kept_typed}
+use Rattle.vfa_cond.proofs.Keeping.{becomes_some, goes_on, not_live, live_is, follows_nothing, follows_last, follows_by, with_facts, kept_typed}
 use Rattle.vfa_cond.proofs.state.State.+narrowing.Goals as goal
 
 pub carry_out-returns-in-One-clause-becomes : goal.carry_out-returns-in-One-clause-becomes

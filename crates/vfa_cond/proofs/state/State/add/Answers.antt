@@ -1,4 +1,4 @@
-use Rattle.std.proofs.Common.{refl, ◌≡◌, ◌<◌, ◌≤◌, ◌+◌, length, arith, subst, sym, IsOk, vec_len, vec_capacity}
+use Rattle.std.proofs.Common.{refl, ◌<◌, ◌≤◌, length, arith, subst, sym, IsOk, vec_len, vec_capacity}
 use Rattle.vfa_cond.specs.States.{name_count}
 use Rattle.vfa_cond.proofs.Entries.{belongs_at, belongs_inside, Ascends-insert, has_space, known_insert}
 use Rattle.vfa_cond.proofs.state.State.add.Goals as goal

@@ -1,10 +1,9 @@
-use Rattle.std.proofs.Common.{ap, subst}
-use Rattle.vfa_cond.specs.Narrowing.{narrowed, deepest}
+use Rattle.std.proofs.Common.{subst}
+use Rattle.vfa_cond.specs.Narrowing.{deepest}
 use Rattle.vfa_cond.specs.States.{known}
-use Rattle.vfa_cond.specs.Truth.{IsTrueState}
 use Rattle.vfa_cond.specs.Wants.{IsWantFor}
 use Rattle.vfa_cond.proofs.Names.{narrowed_keeps, becomes_keeps}
-use Rattle.vfa_cond.proofs.Truthful.{Met, narrows, becomes_met, integer_type}
+use Rattle.vfa_cond.proofs.Truthful.{narrows, becomes_met, integer_type}
 use Rattle.vfa_cond.proofs.state.State.narrow.Goals as goal
 
 pub returns-clause-truth : goal.returns-clause-truth

@@ -1,6 +1,5 @@
-use Rattle.std.proofs.Common.{◌≡◌, ◌+◌, ◌||◌, [], ℕ, Bool, drop, length, get_or, refl, sym, ◌∙◌, ap, subst, arith}
-use Rattle.vfa_cond.specs.States.{AbstractState, known, name_count, given, given_fact, is_given}
-use Rattle.vfa_cond.proofs.Entries.{funext}
+use Rattle.std.proofs.Common.{◌≡◌, ◌+◌, ◌||◌, ℕ, Bool, drop, length, sym, ◌∙◌, ap, subst}
+use Rattle.vfa_cond.specs.States.{known, given, given_fact, is_given}
 use Rattle.vfa_cond.proofs.Given.{GivesRest, MarksRest, gives_step, marks_step, nothing_left, mark_none, still_roomy, all_facts, all_marks, state_is}
 use Rattle.vfa_cond.proofs.state.State.of.Goals as goal
 

@@ -1,4 +1,4 @@
-use Rattle.std.proofs.Common.{◌≡◌, ℕ, [], drop, length}
+use Rattle.std.proofs.Common.{◌≡◌, [], drop, length}
 use Rattle.vfa_cond.specs.States.{known, name_count, IsRoomy, given_fact, is_given}
 use Rattle.vfa_cond.proofs.Given.{GivesRest, MarksRest}
 use Rattle.vfa_cond.proofs.state.State.of.Given as goal

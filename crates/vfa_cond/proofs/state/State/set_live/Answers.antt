@@ -1,5 +1,5 @@
-use Rattle.std.proofs.Common.{◌<◌, length, ap, sym, subst}
-use Rattle.vfa_cond.specs.States.{Stored, name_count}
+use Rattle.std.proofs.Common.{◌<◌, sym, subst}
+use Rattle.vfa_cond.specs.States.{name_count}
 use Rattle.vfa_cond.proofs.Entries.{known_marked}
 use Rattle.vfa_cond.proofs.state.State.set_live.Goals as goal
 

@@ -1,4 +1,3 @@
-use Rattle.std.proofs.Common.{length}
 use Rattle.vfa_cond.proofs.Entries.{stands_at, Ascends-remove, known_remove}
 use Rattle.vfa_cond.proofs.state.State.take.Goals as goal
 
