@@ -20,6 +20,7 @@ mod FoldRefines
 mod FirstGlobals
 mod NameSets
 mod WorkLists
+mod Working
 mod ReasonLines
 mod FoldPrintable
 mod EachInput

@@ -6,7 +6,7 @@ use Rattle.indexmap.specs.IndexSet.{insert_key}
 use Rattle.vfa_ir.specs.Words.{is_among}
 use Rattle.vfa_ir.specs.DefinedNames.{first_repeated}
 use Rattle.vfa_opt.specs.declared.work.Worked.{Worked}
-use Rattle.vfa_opt.specs.Works.{names_in}
+use Rattle.vfa_opt.specs.Works.{worked_name, names_in}
 
 -- ---- keys
 
@@ -67,11 +67,11 @@ added seen after rest n first so_far among more =
 
 -- ---- the names of accepted functions, from a work on
 
-pub with_name : (all : List Worked) (i : ℕ) (d : Worked) (n : List ℕ) → i < length all → (get_or all i d).name ≡ Some n →
+pub with_name : (all : List Worked) (i : ℕ) (d : Worked) (n : List ℕ) → i < length all → worked_name (get_or all i d) ≡ Some n →
     names_in (drop i all) ≡ n ∷ names_in (drop (i + 1) all)
 with_name all i d n lt is = at_drop_more names_in all i d lt ∙ ap (λ o. cons_option o (names_in (drop (i + 1) all))) is
 
-pub without_name : (all : List Worked) (i : ℕ) (d : Worked) → i < length all → (get_or all i d).name ≡ None →
+pub without_name : (all : List Worked) (i : ℕ) (d : Worked) → i < length all → worked_name (get_or all i d) ≡ None →
     names_in (drop i all) ≡ names_in (drop (i + 1) all)
 without_name all i d lt is = at_drop_more names_in all i d lt ∙ ap (λ o. cons_option o (names_in (drop (i + 1) all))) is
 

@@ -16,7 +16,7 @@ use Rattle.vfa_opt.specs.declared.work.Worked.{Worked}
 use Rattle.vfa_opt.specs.Module.{Piece, ArePieces, AreTexts, piece_name, piece_carried, piece_note, function_names, carried_functions, notes_of, Splits, IsModule, IsModuleText}
 use Rattle.vfa_opt.specs.Refusals.{IsRefusal}
 use Rattle.vfa_opt.specs.Refined.{IsRefined}
-use Rattle.vfa_opt.specs.Works.{IsPlaced, IsWorked, AreWorked, IsRefusedFor, texts_in, notes_in, names_in, carried_in}
+use Rattle.vfa_opt.specs.Works.{IsPlaced, IsWorked, AreWorked, IsRefusedFor, IsWithin, worked_text, texts_in, notes_in, names_in, carried_in}
 use Rattle.vfa_opt.proofs.ReasonLines.{feeds_few}
 
 -- ---- items
@@ -63,13 +63,19 @@ pub worked_all : (job : Job) (input : List ℕ) (items : List Item) (i : ℕ) (a
     AreWorked job input (take i items) all → AreWorked job input items all
 worked_all job input items i all past are = subst (λ front. AreWorked job input front all) (take_all i items past) are
 
+pub within_all : (job : Job) (input : List ℕ) (items : List Item) (all : List Worked) → AreWorked job input items all → AllByRecursion (IsWithin input) all
+within_all job input [] [] are = tt
+within_all job input [] (w ∷ all) are = absurd are
+within_all job input (i ∷ items) [] are = absurd are
+within_all job input (i ∷ items) (w ∷ all) are = (are.0.work.within, within_all job input items all are.1)
+
 -- ---- the pieces
 
 -- the pieces of the items, and what the works say of them
 pub record PiecesOf (job : Job) (input : List ℕ) (items : List Item) (all : List Worked) : Type 0 where
   pub pieces : List Piece
   pub are : ArePieces input items pieces
-  pub texts : AreTexts job pieces (texts_in all)
+  pub texts : AreTexts job pieces (texts_in input all)
   pub refined : AllByRecursion (IsRefined job) pieces
   pub notes : notes_in all ≡ notes_of pieces
   pub names : names_in all ≡ function_names pieces
@@ -80,7 +86,7 @@ one_more : (job : Job) (input : List ℕ) (item : Item) (items : List Item) (wor
 one_more job input item items worked all one rest = record {
   pieces = one.piece ∷ rest.pieces;
   are = (one.is, rest.are);
-  texts = (worked.text.items, texts_in all, one.work.text, rest.texts, refl);
+  texts = (worked_text input worked, texts_in input all, one.work.text, rest.texts, refl);
   refined = (one.work.refined, rest.refined);
   notes = ap (λ n. n ++ notes_in all) one.work.note ∙ ap (λ n. piece_note one.piece ++ n) rest.notes;
   names = ap (λ n. cons_option n (names_in all)) one.work.name ∙ ap (cons_option (piece_name one.piece)) rest.names;
@@ -109,7 +115,7 @@ module _ (job : Job) (strict : Bool) (input : List ℕ) (items : List Item) (all
     whole = λ is. sym found.carried ∙ whole is;
   }
 
-  pub text_so : (out notes : List ℕ) → out ≡ texts_in all → notes ≡ notes_in all → first_repeated [] (names_in all) ≡ None →
+  pub text_so : (out notes : List ℕ) → out ≡ texts_in input all → notes ≡ notes_in all → first_repeated [] (names_in all) ≡ None →
       (strict ≡ true → carried_in all ≡ []) → IsModuleText job strict input out notes
   text_so out notes out_is notes_is distinct whole = record {
     pieces = found.pieces;
@@ -144,7 +150,7 @@ module _ (job : Job) (strict : Bool) (input : List ℕ) (items : List Item) (all
   refused_so e (inl memory) = inl memory
   refused_so e (inr is) = inr (refusal_so e is)
 
-  pub text_in : (r : Result Text Refused) → IfOk r (λ text. text.out.items ≡ texts_in all) → IfOk r (λ text. text.notes.items ≡ notes_in all) →
+  pub text_in : (r : Result Text Refused) → IfOk r (λ text. text.out.items ≡ texts_in input all) → IfOk r (λ text. text.notes.items ≡ notes_in all) →
       OnOk r (first_repeated [] (names_in all) ≡ None) → OnOk r (strict ≡ true → carried_in all ≡ []) →
       IfOk r (λ text. IsModuleText job strict input text.out.items text.notes.items)
   text_in (Ok text) out notes distinct whole = text_so text.out.items text.notes.items out notes distinct whole

@@ -1,12 +1,14 @@
 //! The works of all items, joined.
 
-ghost use Rattle.std.specs.Prelude.{◌≡◌, ◌⊎◌, true, List, [], ◌∷◌, None, MatchOption, IfOk, IfErr, OnOk};
+ghost use Rattle.std.specs.Prelude.{◌≡◌, ◌⊎◌, ◌++◌, true, List, [], ◌∷◌, None, MatchOption, IfOk, IfErr, OnOk};
+ghost use Rattle.std.specs.List.{AllByRecursion};
 ghost use Rattle.vfa_ir.specs.DefinedNames.{first_repeated};
 ghost use Rattle.vfa_opt.specs.declared.refusals.Refused.TheVariants.{Memory};
 ghost use Rattle.vfa_opt.specs.declared.work.Carried.{Carried};
-ghost use Rattle.vfa_opt.specs.Works.{texts_in, notes_in, names_in, carried_in, IsRefusedFor};
+ghost use Rattle.vfa_opt.specs.Works.{IsWithin, worked_text, worked_note, worked_carried, texts_in, notes_in, names_in, carried_in, IsRefusedFor};
 
 use crate::names::repeated_name;
+use crate::notes::push_note;
 use crate::refusals::Refused;
 use crate::work::{Carried, Worked};
 use std::alloc::{AllocError, Global};
@@ -20,18 +22,51 @@ pub struct Text {
     pub notes: Vec<u8>,
 }
 
+/// Puts the text last that was made of an item.
+fn push_text(out: &mut Vec<u8>, bytes: &[u8], worked: &Worked) -> Result<(), AllocError>
+    requires { IsWithin bytes.now worked.now }
+    ensures { OnOk result (out.new.items ≡ out.old.items ++ worked_text bytes.now worked.now) }
+{
+    match worked {
+        Worked::Copied { start, end } => out.extend_from_slice(&bytes[*start..*end]),
+        Worked::Printed { text, .. } => out.extend_from_slice(text),
+        Worked::Carried { start, end, .. } => out.extend_from_slice(&bytes[*start..*end]),
+    }
+}
+
+/// Puts the note on an item last, where there is one.
+fn push_note_on(alloc: Global, notes: &mut Vec<u8>, worked: &Worked) -> Result<(), AllocError>
+    ensures { OnOk result (notes.new.items ≡ notes.old.items ++ worked_note worked.now) }
+{
+    match worked {
+        Worked::Carried { function, .. } => push_note(alloc, notes, function),
+        _ => Ok(()),
+    }
+}
+
 /// The texts and the notes.
-fn text_of(alloc: Global, all: &[Worked]) -> Result<Text, AllocError>
-    ensures out { IfOk result (λ text. text.out.items ≡ texts_in all.now) }
+fn text_of(alloc: Global, bytes: &[u8], all: &[Worked]) -> Result<Text, AllocError>
+    requires { AllByRecursion (IsWithin bytes.now) all.now }
+    ensures out { IfOk result (λ text. text.out.items ≡ texts_in bytes.now all.now) }
     ensures notes { IfOk result (λ text. text.notes.items ≡ notes_in all.now) }
 {
     let mut out = Vec::new(alloc);
     let mut notes = Vec::new(alloc);
     'works: for worked in all {
-        out.extend_from_slice(&worked.text)?;
-        notes.extend_from_slice(&worked.note)?;
+        push_text(&mut out, bytes, worked)?;
+        push_note_on(alloc, &mut notes, worked)?;
     }
     Ok(Text { out, notes })
+}
+
+/// The function that stays as it is.
+fn carried_of(worked: Worked) -> Option<Carried>
+    ensures { result ≡ worked_carried worked }
+{
+    match worked {
+        Worked::Carried { function, .. } => Some(function),
+        _ => None,
+    }
 }
 
 /// The first function that stays as it is.
@@ -41,8 +76,7 @@ fn first_carried(all: Vec<Worked>) -> Option<Carried>
         (λ function. (later : List Carried) × (carried_in all.items ≡ function ∷ later)) }
 {
     'works: for worked in all {
-        let Worked { carried, .. } = worked;
-        if let Some(function) = carried {
+        if let Some(function) = carried_of(worked) {
             return Some(function);
         }
     }
@@ -53,8 +87,9 @@ fn first_carried(all: Vec<Worked>) -> Option<Carried>
 ///
 /// `DuplicateFunction` comes exactly where two accepted functions have one name, for the first that stands a second time;
 /// `Strict` exactly where none have, a function stays as it is and `strict` holds, for the first.
-pub fn joined(alloc: Global, strict: bool, all: Vec<Worked>) -> Result<Text, Refused>
-    ensures out { IfOk result (λ text. text.out.items ≡ texts_in all.items) }
+pub fn joined(alloc: Global, strict: bool, bytes: &[u8], all: Vec<Worked>) -> Result<Text, Refused>
+    requires { AllByRecursion (IsWithin bytes.now) all.items }
+    ensures out { IfOk result (λ text. text.out.items ≡ texts_in bytes.now all.items) }
     ensures notes { IfOk result (λ text. text.notes.items ≡ notes_in all.items) }
     ensures distinct { OnOk result (first_repeated [] (names_in all.items) ≡ None) }
     ensures whole { OnOk result (strict ≡ true → carried_in all.items ≡ []) }
@@ -63,7 +98,7 @@ pub fn joined(alloc: Global, strict: bool, all: Vec<Worked>) -> Result<Text, Ref
     if let Some(name) = repeated_name(alloc, &all)? {
         return Err(Refused::DuplicateFunction(name));
     }
-    let text = text_of(alloc, &all)?;
+    let text = text_of(alloc, bytes, &all)?;
     if strict {
         if let Some(function) = first_carried(all) {
             return Err(Refused::Strict(function.name, function.reason));

@@ -40,7 +40,7 @@ fn works(alloc: Global, job: &Job, bytes: &[u8], items: &[Item]) -> Result<Vec<W
     requires limit { length bytes.now ≤ 16777216 }
     ensures { IfOk result (λ all. AreWorked job.now bytes.now items.now all.items) }
 {
-    let mut all = Vec::new(alloc);
+    let mut all = Vec::with_capacity(alloc, items.len())?;
     'items: for item in items {
         let worked = work(alloc, job, bytes, item)?;
         all.push(worked)?;
@@ -57,7 +57,7 @@ fn worked_out(alloc: Global, job: &Job, strict: bool, bytes: &[u8]) -> Result<Te
 {
     let items = items_of(alloc, bytes)?;
     let all = works(alloc, job, bytes, &items)?;
-    joined(alloc, strict, all)
+    joined(alloc, strict, bytes, all)
 }
 
 /// The job's text of a module and the notes on its functions that stay as they are; or why the module is refused.

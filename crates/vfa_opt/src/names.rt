@@ -54,7 +54,7 @@ pub fn repeated_name(alloc: Global, all: &[Worked]) -> Result<Option<Name>, Allo
 {
     let mut seen = Names::new(alloc);
     'works: for worked in all {
-        let Some(name) = &worked.name else {
+        let Worked::Printed { name, .. } = worked else {
             continue;
         };
         if seen.has(name.bytes()) {

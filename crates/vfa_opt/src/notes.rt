@@ -93,7 +93,8 @@ fn push_named_reason(
     text.extend_from_slice(b"\n")
 }
 
-fn push_note(alloc: Global, text: &mut Vec<u8>, function: &Carried) -> Result<(), AllocError>
+/// Puts the note on a function last that stays as it is.
+pub fn push_note(alloc: Global, text: &mut Vec<u8>, function: &Carried) -> Result<(), AllocError>
     ensures { OnOk result (text.new.items ≡ text.old.items ++ note_text function.now) }
 {
     text.extend_from_slice(b"note: ")?;
@@ -104,15 +105,6 @@ fn push_note(alloc: Global, text: &mut Vec<u8>, function: &Carried) -> Result<()
         b" carried: ",
         &function.reason,
     )
-}
-
-/// The note on a function that stays as it is.
-pub fn note(alloc: Global, function: &Carried) -> Result<Vec<u8>, AllocError>
-    ensures { IfOk result (λ text. text.items ≡ note_text function.now) }
-{
-    let mut text = Vec::new(alloc);
-    push_note(alloc, &mut text, function)?;
-    Ok(text)
 }
 
 fn push_duplicate(text: &mut Vec<u8>, name: &[u8]) -> Result<(), AllocError>

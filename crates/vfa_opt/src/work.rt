@@ -1,20 +1,19 @@
 //! The work on one item of a module.
 
-ghost use Rattle.std.specs.Prelude.{◌≡◌, ◌≤◌, ◌<◌, ◌+◌, ◌-◌, ◌^◌, ◌↔◌, length, IfOk, OnOk, IsTrue};
+ghost use Rattle.std.specs.Prelude.{◌≡◌, ◌≤◌, ◌<◌, ◌+◌, ◌-◌, ◌^◌, ◌↔◌, ℕ, List, length, IfOk, IsTrue};
 ghost use Rattle.std.specs.List.{AllByRecursion};
 ghost use Rattle.vfa_ir.specs.Reads.{Fit};
 ghost use Rattle.vfa_ir.specs.Tokens.{tokens_of, IsPlaced as IsToken};
-ghost use Rattle.vfa_ir.specs.declared.reasons.Outside.{Outside};
 ghost use Rattle.vfa_ir.specs.declared.reasons.Outside.TheVariants.{Memory};
-ghost use Rattle.vfa_opt.specs.Acceptance.{IsInside, IsOutside, in_module as shown_reason, line_of};
-ghost use Rattle.vfa_opt.specs.Module.{Piece, copied, accepted, carried, IsDefinePiece, IsPieceText};
-ghost use Rattle.vfa_opt.specs.Refined.{IsRefined};
-ghost use Rattle.vfa_opt.specs.Works.{IsPlaced, IsWorkOn, IsWorked};
+ghost use Rattle.vfa_module.specs.declared.items.Item.TheVariants.{Define};
+ghost use Rattle.vfa_opt.specs.declared.jobs.Job.TheVariants.{Opt};
+ghost use Rattle.vfa_opt.specs.Acceptance.{IsOutside, in_module as shown_reason, line_of};
+ghost use Rattle.vfa_opt.specs.Module.{accepted, define_name as name_of_define};
+ghost use Rattle.vfa_opt.specs.Works.{IsPlaced, IsRange, IsWorkOn, IsWorked};
 
 use crate::acceptance::accept;
 use crate::defines::define_name;
 use crate::jobs::Job;
-use crate::notes::note;
 use crate::printed::printed;
 use std::alloc::{AllocError, Global};
 use vfa_ir::{Function, Name, Outside, Token};
@@ -32,64 +31,39 @@ pub struct Carried {
 
 /// What is made of an item of a module.
 #[derive(Debug, Drop)]
-pub struct Worked {
-    /// The text for it.
-    pub text: Vec<u8>,
-    /// The note on it; empty where there is none.
-    pub note: Vec<u8>,
-    /// The name of an accepted function.
-    pub name: Option<Name>,
-    /// The function that stays as it is.
-    pub carried: Option<Carried>,
+pub enum Worked {
+    /// Bytes outside of all defines, which stay as they are.
+    Copied {
+        /// The offset of the first byte.
+        start: usize,
+        /// The offset after the last byte.
+        end: usize,
+    },
+    /// An accepted function.
+    Printed {
+        /// The text for it.
+        text: Vec<u8>,
+        /// Its name.
+        name: Name,
+    },
+    /// A define that stays as it is.
+    Carried {
+        /// The offset of the word `define`.
+        start: usize,
+        /// The offset after the closing brace.
+        end: usize,
+        /// Its function.
+        function: Carried,
+    },
 }
 
-/// The text for bytes that stay as they are.
-fn kept_text(alloc: Global, job: &Job, bytes: &[u8]) -> Result<Vec<u8>, AllocError>
-    ensures copied { IfOk result (λ text. IsPieceText job.now (copied bytes.now) text.items) }
-    ensures carried { (reason : Outside) → IfOk result (λ text. IsPieceText job.now (carried bytes.now reason) text.items) }
-    ensures refined { IsRefined job.now (copied bytes.now) }
-    ensures refined_carried { (reason : Outside) → IsRefined job.now (carried bytes.now reason) }
-{
-    match job {
-        Job::Opt => Vec::from_slice(alloc, bytes),
-    }
-}
-
-/// The text for an accepted function.
-fn function_text(alloc: Global, job: &Job, f: &Function) -> Result<Vec<u8>, AllocError>
-    requires { Fit f.now }
-    ensures text { IfOk result (λ text. IsPieceText job.now (accepted f.now) text.items) }
-    ensures refined { OnOk result (IsRefined job.now (accepted f.now)) }
-{
-    match job {
-        Job::Opt => printed(alloc, f),
-    }
-}
-
-/// The work on bytes outside of all defines.
-fn work_on_lines(alloc: Global, job: &Job, bytes: &[u8]) -> Result<Worked, AllocError>
-    ensures { IfOk result (IsWorkOn job.now (copied bytes.now)) }
-{
-    Ok(Worked {
-        text: kept_text(alloc, job, bytes)?,
-        note: Vec::new(alloc),
-        name: None,
-        carried: None,
-    })
-}
-
-/// The work on an accepted function.
-fn work_on_function(alloc: Global, job: &Job, f: Function) -> Result<Worked, AllocError>
+/// The text for an accepted function, and its name.
+fn optimised_function(alloc: Global, f: Function) -> Result<Worked, AllocError>
     requires { Fit f }
-    ensures { IfOk result (IsWorkOn job.now (accepted f)) }
+    ensures { (input : List ℕ) → IfOk result (IsWorkOn Opt input (accepted f)) }
 {
-    let text = function_text(alloc, job, &f)?;
-    Ok(Worked {
-        text,
-        note: Vec::new(alloc),
-        name: Some(f.name),
-        carried: None,
-    })
+    let text = printed(alloc, &f)?;
+    Ok(Worked::Printed { text, name: f.name })
 }
 
 /// The line of the module that a line is within a define which begins on the first one.
@@ -112,29 +86,23 @@ fn in_module(first: u32, reason: Outside) -> Outside
     }
 }
 
-/// The work on a define that stays as it is.
-fn work_on_carried(
+/// The function of a define that begins on the first line and stays as it is.
+fn carried_function(
     alloc: Global,
-    job: &Job,
     text: &[u8],
     all: &[Token],
     first: u32,
     reason: Outside,
-) -> Result<Worked, AllocError>
+) -> Result<Carried, AllocError>
     requires tokens { all.now ≡ tokens_of text.now }
     requires lines { first + line_of reason < 2 ^ 32 }
-    ensures { IfOk result (IsWorkOn job.now (carried text.now (shown_reason first reason))) }
+    ensures name { IfOk result (λ function. function.name ≡ name_of_define text.now) }
+    ensures reason { IfOk result (λ function. function.reason ≡ shown_reason first reason) }
 {
     let name = define_name(alloc, text, all)?;
-    let function = Carried {
+    Ok(Carried {
         name,
         reason: in_module(first, reason),
-    };
-    Ok(Worked {
-        text: kept_text(alloc, job, text)?,
-        note: note(alloc, &function)?,
-        name: None,
-        carried: Some(function),
     })
 }
 
@@ -152,34 +120,58 @@ fn line_is_within(text: &[u8], all: &[Token], reason: &Outside)
     ensures { line_of reason.now ≤ length text.now + 1 }
 {}
 
-/// The work on a define that begins on the line.
-fn work_on_define(alloc: Global, job: &Job, text: &[u8], line: u32) -> Result<Worked, AllocError>
-    requires limit { length text.now ≤ 16777216 }
+/// The work of `opt` on a define.
+fn optimise_define(
+    alloc: Global,
+    bytes: &[u8],
+    start: usize,
+    end: usize,
+    line: u32,
+) -> Result<Worked, AllocError>
+    requires range { IsRange bytes.now start end }
+    requires limit { length bytes.now ≤ 16777216 }
     requires line { line ≤ 16777217 }
-    ensures { IfOk result (λ worked. (piece : Piece) × IsDefinePiece line text.now piece × IsWorkOn job.now piece worked) }
+    ensures { IfOk result (IsWorked Opt bytes.now (Define start end line)) }
 {
+    let text = &bytes[start..end];
     let all = tokens(alloc, text)?;
     match accept(alloc, text, &all) {
-        Ok(f) => work_on_function(alloc, job, f),
+        Ok(f) => optimised_function(alloc, f),
         Err(reason) => {
             if is_memory(&reason) {
                 return Err(AllocError);
             }
             line_is_within(text, &all, &reason);
-            work_on_carried(alloc, job, text, &all, line, reason)
+            let function = carried_function(alloc, text, &all, line, reason)?;
+            Ok(Worked::Carried {
+                start,
+                end,
+                function,
+            })
         }
     }
 }
 
-/// The work on an item of a module's text: the text, the note, the name of an accepted function, and a function that stays
-/// as it is.
+/// The work of `opt` on an item.
+fn optimise(alloc: Global, bytes: &[u8], item: &Item) -> Result<Worked, AllocError>
+    requires place { IsPlaced bytes.now item.now }
+    requires limit { length bytes.now ≤ 16777216 }
+    ensures { IfOk result (IsWorked Opt bytes.now item.now) }
+{
+    match *item {
+        Item::Lines { start, end } => Ok(Worked::Copied { start, end }),
+        Item::Define { start, end, line } => optimise_define(alloc, bytes, start, end, line),
+    }
+}
+
+/// The work of a job on an item of a module's text: the text for it, the name of an accepted function, and a function that
+/// stays as it is.
 pub fn work(alloc: Global, job: &Job, bytes: &[u8], item: &Item) -> Result<Worked, AllocError>
     requires place { IsPlaced bytes.now item.now }
     requires limit { length bytes.now ≤ 16777216 }
     ensures { IfOk result (IsWorked job.now bytes.now item.now) }
 {
-    match *item {
-        Item::Lines { start, end } => work_on_lines(alloc, job, &bytes[start..end]),
-        Item::Define { start, end, line } => work_on_define(alloc, job, &bytes[start..end], line),
+    match job {
+        Job::Opt => optimise(alloc, bytes, item),
     }
 }

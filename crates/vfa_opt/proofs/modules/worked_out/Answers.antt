@@ -1,5 +1,5 @@
 use Rattle.std.proofs.Common.{◌∙◌, Ok, sym, ap, rules}
-use Rattle.vfa_opt.proofs.WorkLists.{text_in, refined_in, refused_in}
+use Rattle.vfa_opt.proofs.WorkLists.{within_all, text_in, refined_in, refused_in}
 use Rattle.vfa_opt.proofs.modules.worked_out.Goals as goal
 
 pub returns-in_err-items-clause-refused : goal.returns-in_err-items-clause-refused
@@ -22,3 +22,6 @@ returns-clause-refused c =
     refused_in c.args.job.now c.args.strict c.args.bytes.now c.deref.result.now c.in_ok-all.all.items
     (c.in_ok-items.ensures.items ∙ ap (λ x. Ok x) (sym c.deref.ensures.value)) c.in_ok-all.ensures c.joined.result
     c.joined.ensures.refused
+
+pub joined-requires : goal.joined-requires
+joined-requires c = within_all c.args.job.now c.args.bytes.now c.deref.result.now c.in_ok-all.all.items c.in_ok-all.ensures
