@@ -39,7 +39,7 @@ abbrev pub moved_numbers : ℕ → ℕ → Option Numbers → Option Numbers →
 moved_numbers w c None a = None
 moved_numbers w c (Some sums) a = kept_numbers w (lands_in w c (span_in sums)) a
 
--- the cell of a number whose sum with c lies in the arc of another cell. At width 8, any number whose sum with 10 lies in
--- 5 to 20 is 251 to 10
+-- the cell of a number whose sum with c lies in the arc of another cell. At width 8, the numbers from 200 up to 100 whose sum
+-- with 10 lies in 5 to 20 are 251 to 10
 abbrev pub cell_moved : ℕ → CellValue → CellValue → Option CellValue
 cell_moved c sums a = option_map (marked a.width) (moved_numbers a.width c sums.numbers a.numbers)

@@ -16,7 +16,7 @@ use Rattle.vfa_values.specs.Laws.{first_falling_round}
 abbrev pub first_landmark_round : ℕ
 first_landmark_round = 4
 
--- the unbroken run of known bits from bit 0 on. At width 8, of 1?0?0110 it is the bits ?????110
+-- the unbroken run of known bits from bit 0 on. At width 8, of 1?0?0110 it is ????0110
 unfoldable pub low_masks : ℕ → Masks → Masks
 low_masks w m = record { zeros = m.zeros % 2 ^ run_of w (is_known m); ones = m.ones % 2 ^ run_of w (is_known m) }
 

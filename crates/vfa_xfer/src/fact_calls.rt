@@ -230,3 +230,6 @@ pub(crate) fn rank(a: &AnyFact) -> u32
         Parts::Two(one, bit) => ranks::rank(one) + ranks::rank(bit),
     }
 }
+
+#[cfg(test)]
+mod tests;
