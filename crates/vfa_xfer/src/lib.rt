@@ -24,3 +24,6 @@ mod values;
 mod widening;
 
 pub use any_fact::AnyFact;
+
+#[cfg(test)]
+mod tests;

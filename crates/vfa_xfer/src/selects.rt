@@ -83,19 +83,3 @@ pub(crate) fn assume(c: &Cell) -> Cell
     }
     Cell::literal(1, 1).with_mark(c.never_poison)
 }
-
-#[cfg(test)]
-mod tests {
-    use super::select;
-    use std::test::Fail;
-    use vfa_fact::Cell;
-
-    #[test]
-    fn an_open_condition_joins_the_arms(rt: HostRuntime) -> Result<(), Fail> {
-        let open = Cell::any(1, true);
-        let both = select(&open, &Cell::literal(8, 4), &Cell::literal(8, 12));
-        assert_eq!(rt; both.numbers.ok_or("none")?.first, 4);
-        assert_eq!(rt; both.never_poison, true);
-        Ok(())
-    }
-}
