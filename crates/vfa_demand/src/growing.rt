@@ -43,21 +43,21 @@ fn both(mask: u128, more: u128) -> u128
 
 /// Masks that grow, and whether one did.
 #[derive(Drop)]
-pub struct Growing {
-    pub bits: Vec<u128>,
-    pub grew: bool,
+pub(crate) struct Growing {
+    pub(crate) bits: Vec<u128>,
+    pub(crate) grew: bool,
 }
 
 impl Growing {
     /// The mask of a value.
-    pub fn mask(&self, value: ValueId) -> u128
+    pub(crate) fn mask(&self, value: ValueId) -> u128
         ensures { result ≡ mask_in self.now.bits.items value.0 }
     {
         self.bits.get(value.0 as usize).copied().unwrap_or(0)
     }
 
     /// Takes in that these bits of an operand are asked for.
-    pub fn ask(&mut self, operand: Operand, bits: u128)
+    pub(crate) fn ask(&mut self, operand: Operand, bits: u128)
         requires { IsNameBelow (length self.old.bits.items) operand }
         ensures { IsStep (Have (ask_of bits operand)) self.old.bits.items self.new.bits.items self.old.grew self.new.grew }
     {
@@ -205,7 +205,7 @@ impl Growing {
     }
 
     /// Takes in what all uses of these blocks of the function ask for, each once.
-    pub fn ask_blocks(&mut self, f: &Function, blocks: &[Block])
+    pub(crate) fn ask_blocks(&mut self, f: &Function, blocks: &[Block])
         requires { All (IsUsableBlock f.now (length self.old.bits.items)) blocks.now }
         ensures { IsStep (λ m. Have (flat_map (block_asks f.now m) blocks.now) m)
             self.old.bits.items self.new.bits.items self.old.grew self.new.grew }
