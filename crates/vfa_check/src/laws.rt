@@ -1,6 +1,6 @@
 //! Laws of the functions that are checked.
 
-ghost use Rattle.std.specs.Prelude.{◌≡◌, ℕ, List, length, nat_eq};
+ghost use Rattle.std.specs.Prelude.{◌≡◌, ◌⊎◌, ℕ, List, length, nat_eq};
 ghost use Rattle.std.specs.List.{IsDistinct, range_with_len};
 ghost use Rattle.vfa_check.specs.Checked.{IsWellFormed, MayBeChecked};
 ghost use Rattle.vfa_check.specs.Refusals.{IsRefusal};
@@ -37,4 +37,9 @@ pub fn one_refusal()
 /// None holds of a function that is well formed.
 pub fn refused_is_ill_formed()
     ensures { (f : Function) (lines : Lines) (reason : Outside) → IsRefusal f lines reason → IsWellFormed f → ⊥ }
+{}
+
+/// Each function that may be checked is well formed, or has a refusal.
+pub fn well_formed_or_refused()
+    ensures { (f : Function) (lines : Lines) → MayBeChecked f lines → IsWellFormed f ⊎ ((reason : Outside) × IsRefusal f lines reason) }
 {}

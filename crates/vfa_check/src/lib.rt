@@ -24,4 +24,5 @@ mod uses;
 pub use checking::{Checked, check};
 pub use laws::{
     accepted_may_be_checked, fit_defines_once, fit_is_within, one_refusal, refused_is_ill_formed,
+    well_formed_or_refused,
 };
