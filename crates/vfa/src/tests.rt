@@ -1,6 +1,7 @@
 //! Whole runs over sources and sinks in memory.
 
 mod carried;
+mod checked;
 mod faults;
 mod limits;
 mod printed;

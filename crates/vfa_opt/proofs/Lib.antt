@@ -19,6 +19,7 @@ mod FoldedLines
 mod FoldRefines
 mod FirstGlobals
 mod NameSets
+mod Acceptances
 mod WorkLists
 mod Working
 mod ReasonLines

@@ -58,12 +58,15 @@ pub enum Worked {
 }
 
 /// The text for an accepted function, and its name.
-fn optimised_function(alloc: Global, f: Function) -> Result<Worked, AllocError>
-    requires { Fit f }
-    ensures { (input : List ℕ) → IfOk result (IsWorkOn Opt input (accepted f)) }
+fn optimised_function(alloc: Global, f: &Function) -> Result<Worked, AllocError>
+    requires { Fit f.now }
+    ensures { (input : List ℕ) → IfOk result (IsWorkOn Opt input (accepted f.now)) }
 {
-    let text = printed(alloc, &f)?;
-    Ok(Worked::Printed { text, name: f.name })
+    let text = printed(alloc, f)?;
+    Ok(Worked::Printed {
+        text,
+        name: f.name.copied(alloc)?,
+    })
 }
 
 /// The line of the module that a line is within a define which begins on the first one.
@@ -136,7 +139,7 @@ fn optimise_define(
     let text = &bytes[start..end];
     let all = tokens(alloc, text)?;
     match accept(alloc, text, &all) {
-        Ok(f) => optimised_function(alloc, f),
+        Ok(f) => optimised_function(alloc, f.function()),
         Err(reason) => {
             if is_memory(&reason) {
                 return Err(AllocError);

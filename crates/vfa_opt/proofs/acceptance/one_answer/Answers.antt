@@ -1,10 +1,14 @@
+use Rattle.vfa_opt.proofs.Acceptances.{one_function, one_why, not_both}
 use Rattle.vfa_opt.proofs.acceptance.one_answer.Goals as goal
 
 pub returns-clause-function : goal.returns-clause-function
-returns-clause-function c = λ text f g a b. (c.one_reading.ensures text f g a.lines b.lines a.reads.reads b.reads.reads).0
+returns-clause-function c =
+    one_function c.one_reading.ensures c.one_reason.ensures c.accepted_has_no_reason.ensures c.one_refusal.ensures c.refused_is_ill_formed.ensures
 
 pub returns-clause-reason : goal.returns-clause-reason
-returns-clause-reason c = λ text a b p q. c.one_reason.ensures text a b p q
+returns-clause-reason c =
+    one_why c.one_reading.ensures c.one_reason.ensures c.accepted_has_no_reason.ensures c.one_refusal.ensures c.refused_is_ill_formed.ensures
 
 pub returns-clause-either : goal.returns-clause-either
-returns-clause-either c = λ text f reason a r. c.accepted_has_no_reason.ensures text f a.lines reason a.reads r
+returns-clause-either c =
+    not_both c.one_reading.ensures c.one_reason.ensures c.accepted_has_no_reason.ensures c.one_refusal.ensures c.refused_is_ill_formed.ensures
