@@ -1,5 +1,5 @@
--- The bits of each value that are asked for: the least masks with all that each use asks for. So a bit that is in none of
--- them may change, and no observer of the function can tell.
+-- The bits of each value that are asked for: the least masks with all that each use asks for (LLVM's DemandedBits). They say
+-- which bits something may hang on.
 --
 -- In `%a = and i32 %x, 65535`, `%t = trunc i32 %a to i8`, `ret i8 %t`, all 8 bits of %t are asked for, so 255 of %a, so 255
 -- of %x.

@@ -9,8 +9,7 @@ use std::alloc::{AllocError, Global};
 use vfa_ir::Function;
 
 /// For each value of a function the bits of it that something hangs on, as a mask: the least masks with all that each use
-/// asks for. A bit that is in no mask may change, and no observer of the function can tell. Of a pair all bits of its number
-/// are asked for, or none.
+/// asks for. Of a pair all bits of its number are asked for, or none.
 ///
 /// In `%a = and i32 %x, 65535`, `%t = trunc i32 %a to i8`, `ret i8 %t` it is 255 of each of the three.
 ///
