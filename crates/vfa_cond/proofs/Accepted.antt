@@ -85,17 +85,17 @@ lines_typed f all v op e = record {
 -- ---- ids and types side by side
 
 -- the id has the type
-abbrev HasIts : Function → ℕ → Ty → Type 0
+abbrev pub HasIts : Function → ℕ → Ty → Type 0
 HasIts f v t = name_type f v ≡ t
 
 -- two lists that begin with lists of one length agree in both parts
-zip_first : (f : Function) (xs ys : List ℕ) (us vs : List Ty) → length xs ≡ length us → AllZip (HasIts f) (xs ++ ys) (us ++ vs) → AllZip (HasIts f) xs us
+pub zip_first : (f : Function) (xs ys : List ℕ) (us vs : List Ty) → length xs ≡ length us → AllZip (HasIts f) (xs ++ ys) (us ++ vs) → AllZip (HasIts f) xs us
 zip_first f [] ys [] vs e zip = tt
 zip_first f [] ys (u ∷ us) vs e zip = absurd (omega arith)
 zip_first f (x ∷ xs) ys [] vs e zip = absurd (omega arith)
 zip_first f (x ∷ xs) ys (u ∷ us) vs e zip = (zip.0, zip_first f xs ys us vs (omega arith) zip.1)
 
-zip_second : (f : Function) (xs ys : List ℕ) (us vs : List Ty) → length xs ≡ length us → AllZip (HasIts f) (xs ++ ys) (us ++ vs) → AllZip (HasIts f) ys vs
+pub zip_second : (f : Function) (xs ys : List ℕ) (us vs : List Ty) → length xs ≡ length us → AllZip (HasIts f) (xs ++ ys) (us ++ vs) → AllZip (HasIts f) ys vs
 zip_second f [] ys [] vs e zip = zip
 zip_second f [] ys (u ∷ us) vs e zip = absurd (omega arith)
 zip_second f (x ∷ xs) ys [] vs e zip = absurd (omega arith)
@@ -109,7 +109,7 @@ inst_lengths (i ∷ rest) = at i.result refl (inst_lengths rest)
     at None e later = rw e later
     at (Some r) e later = rw e (ap suc later)
 
-phi_lengths : (phis : List Phi) → length (map (λ (p : Phi). p.result.0) phis) ≡ length (map (λ (p : Phi). Ty.Int p.width) phis)
+pub phi_lengths : (phis : List Phi) → length (map (λ (p : Phi). p.result.0) phis) ≡ length (map (λ (p : Phi). Ty.Int p.width) phis)
 phi_lengths [] = refl
 phi_lengths (p ∷ rest) = ap suc (phi_lengths rest)
 
@@ -117,7 +117,7 @@ length_append : {A : Type 0} (xs ys : List A) → length (xs ++ ys) ≡ length x
 length_append [] ys = omega arith
 length_append (x ∷ xs) ys = omega (arith, length_append xs ys)
 
-block_lengths : (b : Block) → length (block_ids b) ≡ length (block_types b)
+pub block_lengths : (b : Block) → length (block_ids b) ≡ length (block_types b)
 block_lengths b =
     length_append (map (λ (p : Phi). p.result.0) b.phis) (inst_ids b.insts)
     ∙ (ap (λ k. k + length (inst_ids b.insts)) (phi_lengths b.phis)
@@ -130,7 +130,7 @@ id_in o = elim o [ None ↦ None | Some r ↦ Some r.0 ]
 abbrev type_in : Option ValueId → Op → Option Ty
 type_in o op = elim o [ None ↦ None | Some _ ↦ Some (op_type op) ]
 
-rest_zips : (f : Function) (o : Option ValueId) (op : Op) (ids : List ℕ) (types : List Ty) → AllZip (HasIts f) (cons_option (id_in o) ids) (cons_option (type_in o op) types) → AllZip (HasIts f) ids types
+pub rest_zips : (f : Function) (o : Option ValueId) (op : Op) (ids : List ℕ) (types : List Ty) → AllZip (HasIts f) (cons_option (id_in o) ids) (cons_option (type_in o op) types) → AllZip (HasIts f) ids types
 rest_zips f None op ids types zip = zip
 rest_zips f (Some r) op ids types zip = zip.1
 
@@ -197,7 +197,7 @@ length_map : {A B : Type 0} (g : A → B) (xs : List A) → length (map g xs) �
 length_map g [] = refl
 length_map g (x ∷ xs) = ap suc (length_map g xs)
 
-results_zip : (f : Function) → IsPrintable f → AllZip (HasIts f) (flat_map block_ids f.blocks) (flat_map block_types f.blocks)
+pub results_zip : (f : Function) → IsPrintable f → AllZip (HasIts f) (flat_map block_ids f.blocks) (flat_map block_types f.blocks)
 results_zip f printable =
     let params : List ℕ = map (λ p. p.value.0) f.params in
     let count : length params ≡ length f.params = length_map (λ p. p.value.0) f.params in

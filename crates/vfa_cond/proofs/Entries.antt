@@ -154,6 +154,12 @@ module _ {V : Type 0} where
   belongs_inside (e ∷ rest) v zero (first _ _ above) = omega arith
   belongs_inside (e ∷ rest) v (suc i) (behind _ _ _ below at) = omega (arith, belongs_inside rest v i at)
 
+  -- a name that stands among them is below the bound
+  pub stands_below : (xs : List (Entry V)) (low high v i : ℕ) → Ascends low high xs → Stands v xs i → v < high
+  stands_below [] low high v i sorted at = elim at [ ]
+  stands_below (e ∷ rest) low high v zero sorted (here _ _ same) = subst (λ n. n < high) same sorted.1
+  stands_below (e ∷ rest) low high v (suc i) sorted (later _ _ _ below at) = stands_below rest (suc e.name.0) high v i sorted.2 at
+
   -- a name that does not stand among them has room below the bound
   pub has_space : (xs : List (Entry V)) (high v i : ℕ) (d : V) → Ascends 0 high xs → v < high → Belongs v xs i → length xs < high
   has_space xs high v i d sorted below at =

@@ -1,5 +1,8 @@
+pub mod AscendingNames
+pub mod Changes
 pub mod Conditions
 pub mod Consequences
+pub mod Definitions
 pub mod Equations
 pub mod Narrowing
 pub mod Opposites

@@ -2,6 +2,7 @@
 //! by conditions, through live equations to a depth of four (LLVM's LazyValueInfo).
 #![tactic(auto)]
 
+mod changes;
 mod consequence;
 mod equations;
 mod laws;
@@ -12,6 +13,7 @@ mod state;
 mod tests;
 mod want;
 
+pub use changes::Changes;
 pub use laws::typed_functions_have_typed_equations;
 pub use state::State;
 pub use want::Want;

@@ -2,15 +2,18 @@
 
 ghost use Rattle.std.specs.Prelude.{◌≡◌, IsTrue};
 ghost use Rattle.vfa_ir.specs.declared.operations.Ty.TheVariants.{Int};
+ghost use Rattle.vfa_mean.specs.FreshOperands.{DefinesOnce};
 ghost use Rattle.vfa_mean.specs.Outcomes.{type_of};
 ghost use Rattle.vfa_mean.specs.Values.{Env, operand_value};
 ghost use Rattle.vfa_values.specs.Conditions.{IsInteger, IsOf, width_of};
+ghost use Rattle.vfa_cond.specs.Changes.{AreChangesOf, restored};
 ghost use Rattle.vfa_cond.specs.Conditions.{HasTypedEquations, AreFacts, IsNumberOperand, FitsConsequence};
 ghost use Rattle.vfa_cond.specs.Narrowing.{Becomes, deepest, narrowed, narrowed_operand, narrowed_both, operand_fact, held, carried_out, followed};
-ghost use Rattle.vfa_cond.specs.States.{known, KeepsNames, KeepsRoom};
+ghost use Rattle.vfa_cond.specs.States.{AbstractState, known, KeepsNames, KeepsRoom};
 ghost use Rattle.vfa_cond.specs.Truth.{IsTrueState, IsWantedValue, HoldsBetween};
 ghost use Rattle.vfa_cond.specs.Wants.{IsWantFor};
 
+use crate::changes::{Changes, Forgetful, Journal};
 use crate::consequence::{Consequence, consequence_of};
 use crate::equations::equation;
 use crate::predicates::exchanged;
@@ -45,6 +48,7 @@ impl<V: Values> State<V> {
     /// and the new state is true of them too.
     pub fn narrow(&mut self, f: &Function, v: ValueId, want: &Want<V>) -> bool
         requires function { HasTypedEquations f.now }
+        requires once { DefinesOnce f.now }
         requires facts { AreFacts V.ty V.proper f.now (known self.old) }
         requires integer { IsInteger (type_of f.now v) }
         requires wanted { IsWantFor V.ty V.proper (type_of f.now v) want.now }
@@ -55,7 +59,34 @@ impl<V: Values> State<V> {
         ensures names { IsTrue result → KeepsNames (known self.old) (known self.new) }
         ensures room { KeepsRoom self.old self.new }
     {
-        self.narrow_within(f, v, want, DEEPEST)
+        self.narrow_within(f, v, want, DEEPEST, &mut Forgetful)
+    }
+
+    /// Does what `narrow` does, and notes what the facts were. Whatever the answer is, `undo` gives the state that it would have
+    /// given before. The changes are of this state.
+    pub fn narrow_noting(
+        &mut self,
+        f: &Function,
+        v: ValueId,
+        want: &Want<V>,
+        changes: &mut Changes<V>,
+    ) -> bool
+        requires function { HasTypedEquations f.now }
+        requires once { DefinesOnce f.now }
+        requires facts { AreFacts V.ty V.proper f.now (known self.old) }
+        requires integer { IsInteger (type_of f.now v) }
+        requires wanted { IsWantFor V.ty V.proper (type_of f.now v) want.now }
+        requires changes { AreChangesOf changes.old self.old }
+        ensures becomes { Becomes (narrowed V.answers f.now deepest v.0 want.now (known self.old)) result (known self.new) }
+        ensures truth { (env : Env) → IsTrueState V.holds f.now (known self.old) env →
+            IsWantedValue V.holds (width_of (type_of f.now v)) want.now (env v.0) → IsTrue result × IsTrueState V.holds f.now (known self.new) env }
+        ensures facts { IsTrue result → AreFacts V.ty V.proper f.now (known self.new) }
+        ensures names { IsTrue result → KeepsNames (known self.old) (known self.new) }
+        ensures room { KeepsRoom self.old self.new }
+        ensures changes { AreChangesOf changes.new self.new }
+        ensures undone { restored changes.new (known self.new) ≡ restored changes.old (known self.old) }
+    {
+        self.narrow_within(f, v, want, DEEPEST, changes)
     }
 
     /// Narrows both operands, which are of type `iN`, N being `width`, so that the predicate may hold of them: each by the fact
@@ -66,6 +97,7 @@ impl<V: Values> State<V> {
     /// the answer is yes and the new state is true of them too.
     pub fn hold(&mut self, f: &Function, a: Operand, pred: Pred, b: Operand, width: u32) -> bool
         requires function { HasTypedEquations f.now }
+        requires once { DefinesOnce f.now }
         requires facts { AreFacts V.ty V.proper f.now (known self.old) }
         requires first { IsNumberOperand f.now width a }
         requires second { IsNumberOperand f.now width b }
@@ -76,19 +108,58 @@ impl<V: Values> State<V> {
         ensures names { IsTrue result → KeepsNames (known self.old) (known self.new) }
         ensures room { KeepsRoom self.old self.new }
     {
-        self.hold_within(f, a, pred, b, width, DEEPEST)
+        self.hold_within(f, a, pred, b, width, DEEPEST, &mut Forgetful)
+    }
+
+    /// Does what `hold` does, and notes what the facts were, as `narrow_noting` does.
+    pub fn hold_noting(
+        &mut self,
+        f: &Function,
+        a: Operand,
+        pred: Pred,
+        b: Operand,
+        width: u32,
+        changes: &mut Changes<V>,
+    ) -> bool
+        requires function { HasTypedEquations f.now }
+        requires once { DefinesOnce f.now }
+        requires facts { AreFacts V.ty V.proper f.now (known self.old) }
+        requires first { IsNumberOperand f.now width a }
+        requires second { IsNumberOperand f.now width b }
+        requires changes { AreChangesOf changes.old self.old }
+        ensures becomes { Becomes (held V.answers (narrowed V.answers f.now deepest) a pred b width (known self.old)) result (known self.new) }
+        ensures truth { (env : Env) → IsTrueState V.holds f.now (known self.old) env →
+            HoldsBetween pred width (operand_value env a) (operand_value env b) → IsTrue result × IsTrueState V.holds f.now (known self.new) env }
+        ensures facts { IsTrue result → AreFacts V.ty V.proper f.now (known self.new) }
+        ensures names { IsTrue result → KeepsNames (known self.old) (known self.new) }
+        ensures room { KeepsRoom self.old self.new }
+        ensures changes { AreChangesOf changes.new self.new }
+        ensures undone { restored changes.new (known self.new) ≡ restored changes.old (known self.old) }
+    {
+        self.hold_within(f, a, pred, b, width, DEEPEST, changes)
     }
 
     /// Narrows a name through so many equations.
     #[cycle(narrowing)]
-    fn narrow_within(&mut self, f: &Function, v: ValueId, want: &Want<V>, left: u32) -> bool
+    fn narrow_within<J: Journal<V>>(
+        &mut self,
+        f: &Function,
+        v: ValueId,
+        want: &Want<V>,
+        left: u32,
+        journal: &mut J,
+    ) -> bool
         requires function { HasTypedEquations f.now }
+        requires once { DefinesOnce f.now }
         requires facts { AreFacts V.ty V.proper f.now (known self.old) }
         requires integer { IsInteger (type_of f.now v) }
         requires wanted { IsWantFor V.ty V.proper (type_of f.now v) want.now }
+        requires serves { J.serves journal.old self.old }
         ensures becomes { Becomes (narrowed V.answers f.now left v.0 want.now (known self.old)) result (known self.new) }
         ensures facts { IsTrue result → AreFacts V.ty V.proper f.now (known self.new) }
         ensures room { KeepsRoom self.old self.new }
+        ensures serves { J.serves journal.new self.new }
+        ensures was { (s : AbstractState V) → J.was journal.old (known self.old) s → J.was journal.new (known self.new) s }
     {
         let Some(fact) = self.fact(v) else {
             return true;
@@ -96,19 +167,30 @@ impl<V: Values> State<V> {
         let Some(kept) = want.keep(&fact) else {
             return false;
         };
-        self.replace(v, kept);
-        self.follow(f, v, &kept, left)
+        journal.replace(self, v, fact, kept);
+        self.follow(f, v, &kept, left, journal)
     }
 
     /// Does what follows from a new fact of a name.
     #[cycle(narrowing)]
-    fn follow(&mut self, f: &Function, v: ValueId, fact: &V, left: u32) -> bool
+    fn follow<J: Journal<V>>(
+        &mut self,
+        f: &Function,
+        v: ValueId,
+        fact: &V,
+        left: u32,
+        journal: &mut J,
+    ) -> bool
         requires function { HasTypedEquations f.now }
+        requires once { DefinesOnce f.now }
         requires facts { AreFacts V.ty V.proper f.now (known self.old) }
         requires own { IsOf V.ty V.proper (type_of f.now v) fact.now }
+        requires serves { J.serves journal.old self.old }
         ensures becomes { Becomes (followed V.answers f.now left v.0 fact.now (known self.old)) result (known self.new) }
         ensures facts { IsTrue result → AreFacts V.ty V.proper f.now (known self.new) }
         ensures room { KeepsRoom self.old self.new }
+        ensures serves { J.serves journal.new self.new }
+        ensures was { (s : AbstractState V) → J.was journal.old (known self.old) s → J.was journal.new (known self.new) s }
     {
         if left == 0 {
             return true;
@@ -118,19 +200,29 @@ impl<V: Values> State<V> {
         }
         match equation(f, v) {
             None => true,
-            Some(op) => self.carry_out(f, &consequence_of(&op, fact), left - 1),
+            Some(op) => self.carry_out(f, &consequence_of(&op, fact), left - 1, journal),
         }
     }
 
     /// Does to operands what a fact says of them.
     #[cycle(narrowing)]
-    fn carry_out(&mut self, f: &Function, consequence: &Consequence<V>, left: u32) -> bool
+    fn carry_out<J: Journal<V>>(
+        &mut self,
+        f: &Function,
+        consequence: &Consequence<V>,
+        left: u32,
+        journal: &mut J,
+    ) -> bool
         requires function { HasTypedEquations f.now }
+        requires once { DefinesOnce f.now }
         requires facts { AreFacts V.ty V.proper f.now (known self.old) }
         requires fits { FitsConsequence V.ty V.proper f.now consequence.now }
+        requires serves { J.serves journal.old self.old }
         ensures becomes { Becomes (carried_out V.answers (narrowed V.answers f.now left) consequence.now (known self.old)) result (known self.new) }
         ensures facts { IsTrue result → AreFacts V.ty V.proper f.now (known self.new) }
         ensures room { KeepsRoom self.old self.new }
+        ensures serves { J.serves journal.new self.new }
+        ensures was { (s : AbstractState V) → J.was journal.old (known self.old) s → J.was journal.new (known self.new) s }
     {
         match *consequence {
             Consequence::Nothing => true,
@@ -139,66 +231,76 @@ impl<V: Values> State<V> {
                 operand,
                 width,
                 want,
-            } => self.narrow_operand(f, operand, width, &want, left),
+            } => self.narrow_operand(f, operand, width, &want, left, journal),
             Consequence::Both {
                 first,
                 second,
                 want,
-            } => self.narrow_both(f, first, second, &want, left),
+            } => self.narrow_both(f, first, second, &want, left, journal),
             Consequence::Holds {
                 first,
                 pred,
                 second,
                 width,
-            } => self.hold_within(f, first, pred, second, width, left),
+            } => self.hold_within(f, first, pred, second, width, left, journal),
         }
     }
 
     /// Narrows two operands of type `i1`, one after the other.
     #[cycle(narrowing)]
-    fn narrow_both(
+    fn narrow_both<J: Journal<V>>(
         &mut self,
         f: &Function,
         first: Operand,
         second: Operand,
         want: &Want<V>,
         left: u32,
+        journal: &mut J,
     ) -> bool
         requires function { HasTypedEquations f.now }
+        requires once { DefinesOnce f.now }
         requires facts { AreFacts V.ty V.proper f.now (known self.old) }
         requires first { IsNumberOperand f.now 1 first }
         requires second { IsNumberOperand f.now 1 second }
         requires wanted { IsWantFor V.ty V.proper (Int 1) want.now }
+        requires serves { J.serves journal.old self.old }
         ensures becomes { Becomes (narrowed_both V.answers (narrowed V.answers f.now left) first second want.now (known self.old)) result (known self.new) }
         ensures facts { IsTrue result → AreFacts V.ty V.proper f.now (known self.new) }
         ensures room { KeepsRoom self.old self.new }
+        ensures serves { J.serves journal.new self.new }
+        ensures was { (s : AbstractState V) → J.was journal.old (known self.old) s → J.was journal.new (known self.new) s }
     {
-        if !self.narrow_operand(f, first, 1, want, left) {
+        if !self.narrow_operand(f, first, 1, want, left, journal) {
             return false;
         }
-        self.narrow_operand(f, second, 1, want, left)
+        self.narrow_operand(f, second, 1, want, left, journal)
     }
 
     /// Narrows an operand of this width.
     #[cycle(narrowing)]
-    fn narrow_operand(
+    fn narrow_operand<J: Journal<V>>(
         &mut self,
         f: &Function,
         operand: Operand,
         width: u32,
         want: &Want<V>,
         left: u32,
+        journal: &mut J,
     ) -> bool
         requires function { HasTypedEquations f.now }
+        requires once { DefinesOnce f.now }
         requires facts { AreFacts V.ty V.proper f.now (known self.old) }
         requires operand { IsNumberOperand f.now width operand }
         requires wanted { IsWantFor V.ty V.proper (Int width) want.now }
+        requires serves { J.serves journal.old self.old }
         ensures becomes { Becomes (narrowed_operand V.answers (narrowed V.answers f.now left) operand width want.now (known self.old)) result (known self.new) }
         ensures facts { IsTrue result → AreFacts V.ty V.proper f.now (known self.new) }
         ensures room { KeepsRoom self.old self.new }
+        ensures serves { J.serves journal.new self.new }
+        ensures was { (s : AbstractState V) → J.was journal.old (known self.old) s → J.was journal.new (known self.new) s }
     {
         match operand {
-            Operand::Value(v) => self.narrow_within(f, v, want, left),
+            Operand::Value(v) => self.narrow_within(f, v, want, left, journal),
             Operand::Literal(bits) => want.keep(&V::literal(width, bits)).is_some(),
             Operand::Poison => false,
         }
@@ -206,7 +308,7 @@ impl<V: Values> State<V> {
 
     /// Narrows two operands of this width so that the predicate may hold of them.
     #[cycle(narrowing)]
-    fn hold_within(
+    fn hold_within<J: Journal<V>>(
         &mut self,
         f: &Function,
         a: Operand,
@@ -214,14 +316,19 @@ impl<V: Values> State<V> {
         b: Operand,
         width: u32,
         left: u32,
+        journal: &mut J,
     ) -> bool
         requires function { HasTypedEquations f.now }
+        requires once { DefinesOnce f.now }
         requires facts { AreFacts V.ty V.proper f.now (known self.old) }
         requires first { IsNumberOperand f.now width a }
         requires second { IsNumberOperand f.now width b }
+        requires serves { J.serves journal.old self.old }
         ensures becomes { Becomes (held V.answers (narrowed V.answers f.now left) a pred b width (known self.old)) result (known self.new) }
         ensures facts { IsTrue result → AreFacts V.ty V.proper f.now (known self.new) }
         ensures room { KeepsRoom self.old self.new }
+        ensures serves { J.serves journal.new self.new }
+        ensures was { (s : AbstractState V) → J.was journal.old (known self.old) s → J.was journal.new (known self.new) s }
     {
         let Some(first) = self.operand_fact(f, width, a) else {
             return true;
@@ -229,9 +336,16 @@ impl<V: Values> State<V> {
         let Some(second) = self.operand_fact(f, width, b) else {
             return true;
         };
-        if !self.narrow_operand(f, a, width, &Want::Compare(pred, second), left) {
+        if !self.narrow_operand(f, a, width, &Want::Compare(pred, second), left, journal) {
             return false;
         }
-        self.narrow_operand(f, b, width, &Want::Compare(exchanged(pred), first), left)
+        self.narrow_operand(
+            f,
+            b,
+            width,
+            &Want::Compare(exchanged(pred), first),
+            left,
+            journal,
+        )
     }
 }

@@ -167,6 +167,7 @@ impl<V: Values> State<V> {
     /// Gives a name that has a fact this one.
     pub(crate) fn replace(&mut self, v: ValueId, fact: V)
         requires { IsSome ((known self.old).fact v.0) }
+        ensures range { v.0 < name_count self.old }
         ensures change { known self.new ≡ with_fact (known self.old) v.0 (Some fact) }
         ensures room { KeepsRoom self.old self.new }
     {

@@ -8,6 +8,7 @@ ghost use Rattle.vfa_ir.specs.declared.operations.Ty.TheVariants.{Int};
 ghost use Rattle.vfa_ir.specs.Printable.{IsOperand, AreOperands, PrintableOp, op_type};
 ghost use Rattle.vfa_ir.specs.Typed.{IsOfType, AreOfWidth, TypedOp};
 ghost use Rattle.vfa_ir.specs.Operands.{no_flags};
+ghost use Rattle.vfa_mean.specs.FreshOperands.{DefinesOnce};
 ghost use Rattle.vfa_mean.specs.Outcomes.{type_of};
 ghost use Rattle.vfa_values.specs.Constants.{constant_type, IsConstant};
 ghost use Rattle.vfa_values.specs.Conditions.{IsOf, IsInteger};
@@ -15,11 +16,13 @@ ghost use Rattle.vfa_word.specs.Numbers.{IsWidth};
 ghost use Rattle.vfa_cond.specs.Conditions.{AreFacts, HasTypedEquations, IsNumberOperand};
 ghost use Rattle.vfa_cond.specs.States.{known, name_count, IsRoomy};
 ghost use Rattle.vfa_cond.specs.Wants.{IsWantFor};
+ghost use Rattle.vfa_cond.specs.AscendingNames.{IsAscending};
 ghost use Rattle.vfa_cond.specs.TypedLines.{IsTypedLine};
 
-use crate::{State, Want};
+use crate::{Changes, State, Want};
 use std::alloc::{AllocError, Global};
 use std::process::Abort;
+use std::test::Fail;
 use vfa_ir::{
     Bin, Block, Cast, CastFlags, Flags, Function, Inst, Items, Name, Op, Operand, Pred, Term, Ty,
     Value, ValueId,
@@ -57,9 +60,43 @@ const BOTH_CHOSEN: ValueId = ValueId(11);
 
 const EITHER_CHOSEN: ValueId = ValueId(12);
 
-const TWICE: ValueId = ValueId(13);
+const SUM_IS: ValueId = ValueId(13);
 
-const NAMES: usize = 18;
+const MASKED_IS: ValueId = ValueId(14);
+
+/// The names of a row of conditions; behind each of them stand opposites, one behind the other.
+const CONDITIONS: [ValueId; 9] = [
+    LOW,
+    SAME,
+    BOTH,
+    EITHER,
+    OPPOSITE,
+    BOTH_CHOSEN,
+    EITHER_CHOSEN,
+    SUM_IS,
+    MASKED_IS,
+];
+
+/// How many opposites stand behind each condition.
+const BEHIND: u32 = 4;
+
+/// The first opposite.
+const OPPOSITES: u32 = 15;
+
+const NAMES: u32 = 51;
+
+/// The name that stands so many opposites behind a condition.
+fn opposite(place: u32, behind: u32) -> ValueId {
+    let places = place.wrapping_mul(BEHIND).wrapping_add(behind);
+    ValueId(places.wrapping_add(OPPOSITES).wrapping_sub(1))
+}
+
+fn width_of(v: ValueId) -> u32 {
+    if v == A || v == B || v == SUM || v == MASKED {
+        return BYTE;
+    }
+    BIT
+}
 
 fn value(width: u32) -> Value {
     Value {
@@ -85,6 +122,20 @@ fn binary(bin: Bin, width: u32, a: Operand, b: Operand) -> Op {
 
 fn name(v: ValueId) -> Operand {
     Operand::Value(v)
+}
+
+fn not(v: ValueId) -> Op {
+    binary(Bin::Xor, BIT, name(v), Operand::Literal(1))
+}
+
+fn equal(v: ValueId, bits: u128) -> Op {
+    Op::Icmp {
+        pred: Pred::Eq,
+        samesign: false,
+        width: BYTE,
+        a: name(v),
+        b: Operand::Literal(bits),
+    }
 }
 
 /// The equations of the names behind the four parameters, in order.
@@ -125,20 +176,23 @@ fn operations(alloc: Global) -> Result<Vec<Op>, AllocError> {
         a: Operand::Literal(1),
         b: name(Q),
     })?;
-    // a chain of opposites: of TWICE the opposite of %p is the fifth equation
-    ops.push(binary(Bin::Xor, BIT, name(ValueId(14)), Operand::Literal(1)))?;
-    ops.push(binary(Bin::Xor, BIT, name(ValueId(15)), Operand::Literal(1)))?;
-    ops.push(binary(Bin::Xor, BIT, name(ValueId(16)), Operand::Literal(1)))?;
-    ops.push(binary(Bin::Xor, BIT, name(ValueId(17)), Operand::Literal(1)))?;
-    ops.push(binary(Bin::Xor, BIT, name(P), Operand::Literal(1)))?;
+    ops.push(equal(SUM, 10))?;
+    ops.push(equal(MASKED, 5))?;
+    let mut place = 0u32;
+    for condition in CONDITIONS {
+        ops.push(not(condition))?;
+        for behind in 1..BEHIND {
+            ops.push(not(opposite(place, behind)))?;
+        }
+        place = place.wrapping_add(1);
+    }
     Ok(ops)
 }
 
 fn function(alloc: Global) -> Result<Function, AllocError> {
     let mut values = Vec::new(alloc);
     for v in 0..NAMES {
-        let wide = v < 2 || v == 4 || v == 5;
-        values.push(value(if wide { BYTE } else { BIT }))?;
+        values.push(value(width_of(ValueId(v))))?;
     }
     let mut insts = Vec::new(alloc);
     let mut next = 4u32;
@@ -346,6 +400,44 @@ fn equations_fit(f: &Function) -> bool
     blocks_fit(f, f.blocks.as_slice())
 }
 
+/// Whether the results of the instructions stand in ascending order, from `low` on.
+fn ascend(insts: &[Inst], low: u32) -> bool
+    ensures { IsTrue result → IsAscending low insts.now }
+{
+    let Some((first, rest)) = insts.split_first() else {
+        return true;
+    };
+    let Some(v) = first.result else {
+        return ascend(rest, low);
+    };
+    if v.0 < low {
+        return false;
+    }
+    if v.0 >= NAMES {
+        return false;
+    }
+    ascend(rest, v.0 + 1)
+}
+
+/// Whether the function has one block, and its instructions alone define names, each once.
+fn defines_once(f: &Function) -> bool
+    ensures { IsTrue result → DefinesOnce f.now }
+{
+    if !f.params.as_slice().is_empty() {
+        return false;
+    }
+    let Some((block, rest)) = f.blocks.as_slice().split_first() else {
+        return false;
+    };
+    if !rest.is_empty() {
+        return false;
+    }
+    if !block.phis.as_slice().is_empty() {
+        return false;
+    }
+    ascend(block.insts.as_slice(), 0)
+}
+
 fn constant_fits(f: &Function, v: ValueId, fact: Constant) -> bool
     ensures { IsTrue result → IsOf constant_type IsConstant (type_of f.now v) fact }
 {
@@ -447,8 +539,11 @@ fn narrowed(
     if !equations_fit(&f) {
         return Ok(Outcome::Unfit);
     }
+    if !defines_once(&f) {
+        return Ok(Outcome::Unfit);
+    }
     let mut live = Vec::new(alloc);
-    for name in 4..18u32 {
+    for name in SUM.0..NAMES {
         if name != ended.0 {
             live.push(ValueId(name))?;
         }
@@ -565,77 +660,108 @@ fn a_comparison_restricts_both_operands_by_the_facts_before(rt: HostRuntime) {
     assert_eq!(rt; facts_of(&rt, alloc, &alone, NONE, SAME, 1, A, B), left);
 }
 
-#[test]
-fn conditions_restrict_both_parts(rt: HostRuntime) {
-    let alloc = rt.alloc();
-    let facts = [
-        (P, any(BIT)),
-        (Q, any(BIT)),
-        (LOW, any(BIT)),
-        (BOTH, any(BIT)),
-        (EITHER, any(BIT)),
-        (OPPOSITE, any(BIT)),
-        (BOTH_CHOSEN, any(BIT)),
-        (EITHER_CHOSEN, any(BIT)),
-        (A, any(BYTE)),
-    ];
-    let set = two(only(BIT, 1), only(BIT, 1));
-    let clear = two(only(BIT, 0), only(BIT, 0));
-    let open = two(any(BIT), any(BIT));
-    assert_eq!(rt; facts_of(&rt, alloc, &facts, NONE, BOTH, 1, P, Q), set);
-    assert_eq!(rt; facts_of(&rt, alloc, &facts, NONE, BOTH, 0, P, Q), open);
-    assert_eq!(rt; facts_of(&rt, alloc, &facts, NONE, EITHER, 0, P, Q), clear);
-    assert_eq!(rt; facts_of(&rt, alloc, &facts, NONE, EITHER, 1, P, Q), open);
-    assert_eq!(rt;
-        facts_of(&rt, alloc, &facts, NONE, BOTH_CHOSEN, 1, P, Q),
-        set
-    );
-    assert_eq!(rt;
-        facts_of(&rt, alloc, &facts, NONE, EITHER_CHOSEN, 0, P, Q),
-        clear
-    );
-    assert_eq!(rt;
-        facts_of(&rt, alloc, &facts, NONE, OPPOSITE, 1, P, Q),
-        two(only(BIT, 0), any(BIT))
-    );
-    assert_eq!(rt;
-        facts_of(&rt, alloc, &facts, NONE, LOW, 1, LOW, A),
-        two(only(BIT, 1), number(BYTE))
-    );
+/// What a condition says of two names, where it stands behind at most `deepest` equations.
+#[derive(Clone, Copy)]
+struct Row {
+    bit: u128,
+    first: ValueId,
+    second: ValueId,
+    facts: Facts,
+    deepest: u32,
+}
+
+fn restricts(bit: u128, first: ValueId, second: ValueId, facts: Facts, deepest: u32) -> Row {
+    Row {
+        bit,
+        first,
+        second,
+        facts,
+        deepest,
+    }
+}
+
+fn given(first: Constant, second: Constant) -> Facts {
+    Facts {
+        first: Some(first),
+        second: Some(second),
+    }
+}
+
+/// The rows of the conditions, in their order.
+fn rows() -> [Row; 9] {
+    let (set, clear) = (only(BIT, 1), only(BIT, 0));
+    [
+        restricts(1, LOW, A, given(set, number(BYTE)), 3),
+        restricts(1, A, B, given(only(BYTE, 7), only(BYTE, 7)), 3),
+        restricts(1, P, Q, given(set, set), 3),
+        restricts(0, P, Q, given(clear, clear), 3),
+        restricts(1, P, Q, given(clear, any(BIT)), 3),
+        restricts(1, P, Q, given(set, set), 3),
+        restricts(0, P, Q, given(clear, clear), 3),
+        restricts(1, SUM, A, given(only(BYTE, 10), number(BYTE)), 2),
+        restricts(1, MASKED, A, given(only(BYTE, 5), number(BYTE)), 2),
+    ]
 }
 
 #[test]
-fn four_live_equations_are_followed_and_no_more(rt: HostRuntime) {
+fn each_condition_restricts_through_four_equations_and_no_more(
+    rt: HostRuntime,
+) -> Result<(), Fail> {
     let alloc = rt.alloc();
-    let facts = [
-        (P, any(BIT)),
-        (TWICE, any(BIT)),
-        (ValueId(14), any(BIT)),
-        (ValueId(15), any(BIT)),
-        (ValueId(16), any(BIT)),
-        (ValueId(17), any(BIT)),
-    ];
+    let mut before = Vec::new(alloc);
+    for v in 0..NAMES {
+        let v = ValueId(v);
+        before.push((
+            v,
+            if v == B {
+                only(BYTE, 7)
+            } else {
+                any(width_of(v))
+            },
+        ))?;
+    }
+    let mut place = 0u32;
+    for row in rows() {
+        let condition = CONDITIONS[place as usize % CONDITIONS.len()];
+        for behind in 0..5u32 {
+            let v = if behind == 0 {
+                condition
+            } else {
+                opposite(place, behind)
+            };
+            let bit = (row.bit ^ u128::from(behind)) & 1;
+            let found = facts_of(
+                &rt,
+                alloc,
+                before.as_slice(),
+                NONE,
+                v,
+                bit,
+                row.first,
+                row.second,
+            );
+            if behind <= row.deepest {
+                assert_eq!(rt; found, Some(row.facts), "{behind} behind {place}");
+            } else {
+                assert_ne!(rt; found, Some(row.facts), "{behind} behind {place}");
+            }
+        }
+        place = place.wrapping_add(1);
+    }
+    Ok(())
+}
+
+#[test]
+fn an_ended_equation_is_not_followed(rt: HostRuntime) {
+    let alloc = rt.alloc();
+    let known = [(P, any(BIT)), (Q, any(BIT)), (BOTH, any(BIT))];
     assert_eq!(rt;
-        facts_of(&rt, alloc, &facts, NONE, TWICE, 1, ValueId(17), P),
+        facts_of(&rt, alloc, &known, BOTH, BOTH, 1, BOTH, P),
         two(only(BIT, 1), any(BIT))
     );
     assert_eq!(rt;
-        facts_of(&rt, alloc, &facts, NONE, ValueId(14), 0, ValueId(17), P),
-        two(only(BIT, 1), only(BIT, 0))
-    );
-    let ended = ValueId(15);
-    assert_eq!(rt;
-        facts_of(
-            &rt,
-            alloc,
-            &facts,
-            ended,
-            ValueId(14),
-            0,
-            ended,
-            ValueId(16)
-        ),
-        two(only(BIT, 1), any(BIT))
+        facts_of(&rt, alloc, &known, NONE, BOTH, 1, BOTH, P),
+        two(only(BIT, 1), only(BIT, 1))
     );
 }
 
@@ -662,6 +788,9 @@ fn held(
 ) -> Result<Outcome, AllocError> {
     let f = function(alloc)?;
     if !equations_fit(&f) {
+        return Ok(Outcome::Unfit);
+    }
+    if !defines_once(&f) {
         return Ok(Outcome::Unfit);
     }
     let facts = [(A, fact)];
@@ -733,6 +862,14 @@ fn literals_pass_or_fail_and_poison_fails(rt: HostRuntime) {
         held_fact(&rt, alloc, any(BYTE), name(A), Pred::Ule, name(A)),
         Some(Some(number(BYTE)))
     );
+}
+
+#[test]
+fn changes_have_room_for_each_name(rt: HostRuntime) -> Result<(), Fail> {
+    let alloc = rt.alloc();
+    let f = function(alloc)?;
+    let _changes: Changes<Constant> = Changes::of(alloc, &f)?;
+    Ok(())
 }
 
 #[test]

@@ -31,7 +31,7 @@ pub follow-carry_out-requires : goal.follow-carry_out-requires
 follow-carry_out-requires g t c =
     let typed = c.requires.function c.args.v.0 c.in-Some.op (sym c.in-Some.ensures) in
     let fits = consequence_fits _ _ _ g.met.V.Values.lawful.typed _ c.args.v.0 c.in-Some.op c.args.fact.now typed c.requires.own in
-    λ κs within. (search rules, (search rules, (c.requires.function, (c.requires.facts, rw c.consequence_of.ensures fits))))
+    λ κs within. (search rules, (search rules, (search rules, (c.requires.function, (c.requires.once, (c.requires.facts, (rw c.consequence_of.ensures fits, c.requires.serves)))))))
 
 pub follow-returns-in-Some-clause-becomes : goal.follow-returns-in-Some-clause-becomes
 follow-returns-in-Some-clause-becomes g t c =
@@ -42,18 +42,18 @@ pub hold_within-narrow_operand-requires : goal.hold_within-narrow_operand-requir
 hold_within-narrow_operand-requires g t c =
     let second = operand_typed _ _ _ g.met.V.Values.lawful.typed _ c.args.width (known c.args.self.now) c.args.b c.requires.facts c.requires.second
     c.in-Some-operand_fact.second (sym c.operand_fact-2.ensures ∙ c.in-Some-operand_fact.is) in
-    λ κs within. (search rules, (search rules, (c.requires.function, (c.requires.facts, (c.requires.first, second)))))
+    λ κs within. (search rules, (search rules, (search rules, (c.requires.function, (c.requires.once, (c.requires.facts, (c.requires.first, (second, c.requires.serves))))))))
 
 pub hold_within-narrow_operand-requires-2 : goal.hold_within-narrow_operand-requires-2
 hold_within-narrow_operand-requires-2 g t c =
     let first = operand_typed _ _ _ g.met.V.Values.lawful.typed _ c.args.width (known c.args.self.now) c.args.a c.requires.facts c.requires.first
     c.in-Some.first (sym c.operand_fact.ensures ∙ c.in-Some.is) in
     let facts = c.narrow_operand.ensures.facts c.if-not-narrow_operand.false in
-    λ κs within. (search rules, (search rules, (c.requires.function, (facts, (c.requires.second, first)))))
+    λ κs within. (search rules, (search rules, (search rules, (c.requires.function, (c.requires.once, (facts, (c.requires.second, (first, c.narrow_operand.ensures.serves))))))))
 
 pub narrow_both-narrow_operand-requires-2 : goal.narrow_both-narrow_operand-requires-2
 narrow_both-narrow_operand-requires-2 g t c =
-    λ κs within. (search rules, (search rules, (c.requires.function, (c.narrow_operand.ensures.facts c.if-not-narrow_operand.false, (c.requires.second, c.requires.wanted)))))
+    λ κs within. (search rules, (search rules, (search rules, (c.requires.function, (c.requires.once, (c.narrow_operand.ensures.facts c.if-not-narrow_operand.false, (c.requires.second, (c.requires.wanted, c.narrow_operand.ensures.serves))))))))
 
 pub narrow_both-returns-clause-becomes : goal.narrow_both-returns-clause-becomes
 narrow_both-returns-clause-becomes g t c =
@@ -77,7 +77,16 @@ narrow_within-follow-requires g t c =
     let of = c.requires.facts c.args.v.0 c.in-Some.fact (sym c.in-Some.ensures) in
     let kept = kept_typed _ _ c.args.f.now _ g.met.V.Values.lawful.typed _ c.in-Some.fact c.args.want.now c.requires.integer of c.requires.wanted c.in-Some-keep.kept (sym c.in-Some-keep.ensures) in
     let facts = subst (λ s. AreFacts g.V.Values.ty g.V.Values.proper c.args.f.now s) (sym c.replace.ensures.change) (with_facts _ _ c.args.f.now (known c.args.self.now) c.args.v.0 c.in-Some-keep.kept c.requires.facts kept) in
-    λ κs within. (search rules, (search rules, (c.requires.function, (facts, kept))))
+    λ κs within. (search rules, (search rules, (search rules, (c.requires.function, (c.requires.once, (facts, (kept, c.replace.ensures.serves)))))))
 
 pub narrow_within-returns-clause-becomes : goal.narrow_within-returns-clause-becomes
 narrow_within-returns-clause-becomes g t c = rw (← c.in-Some.ensures, ← c.in-Some-keep.ensures, ← c.replace.ensures.change) c.follow.ensures.becomes
+
+pub narrow_within-returns-clause-was : goal.narrow_within-returns-clause-was
+narrow_within-returns-clause-was g t c s was = c.follow.ensures.was s (c.replace.ensures.was s was)
+
+pub narrow_both-returns-clause-was : goal.narrow_both-returns-clause-was
+narrow_both-returns-clause-was g t c s was = c.narrow_operand-2.ensures.was s (c.narrow_operand.ensures.was s was)
+
+pub hold_within-returns-clause-was : goal.hold_within-returns-clause-was
+hold_within-returns-clause-was g t c s was = c.narrow_operand-2.ensures.was s (c.narrow_operand.ensures.was s was)

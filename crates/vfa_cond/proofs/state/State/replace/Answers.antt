@@ -1,4 +1,6 @@
-use Rattle.vfa_cond.proofs.Entries.{stands_at, Ascends-set, known_set}
+use Rattle.std.proofs.Common.{◌<◌, subst}
+use Rattle.vfa_cond.specs.States.{name_count}
+use Rattle.vfa_cond.proofs.Entries.{stands_at, stands_below, Ascends-set, known_set}
 use Rattle.vfa_cond.proofs.state.State.replace.Goals as goal
 
 pub invariant_of-self : goal.invariant_of-self
@@ -10,3 +12,8 @@ pub returns-clause-change : goal.returns-clause-change
 returns-clause-change g c =
     let at = stands_at _ _ _ c.args.self.now c.args.v.0 c.place_of-place.result c.self.view_is c.place_of-place.ensures.place c.place_of-place.ensures.found c.requires in
     rw (← c.self.view_is) (known_set _ _ _ _ _ at)
+
+pub returns-clause-range : goal.returns-clause-range
+returns-clause-range g c =
+    let at = stands_at _ _ _ c.args.self.now c.args.v.0 c.place_of-place.result c.self.view_is c.place_of-place.ensures.place c.place_of-place.ensures.found c.requires in
+    subst (λ s. c.args.v.0 < name_count s) c.self.view_is (stands_below _ 0 _ _ _ c.self.invariant at)

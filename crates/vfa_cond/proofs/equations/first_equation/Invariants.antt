@@ -1,6 +1,6 @@
 use Rattle.std.proofs.Common.{◌≡◌, drop}
 use Rattle.vfa_cond.specs.Equations.{equation, equation_in}
-use Rattle.vfa_cond.proofs.equations.equation.Given as goal
+use Rattle.vfa_cond.proofs.equations.first_equation.Given as goal
 
 -- the answer for what is left is that for the whole
 abbrev pub invariant-all : goal.invariant-all
