@@ -1,10 +1,14 @@
 pub mod FreshOperands
+pub mod Kept
 pub mod Laws
 pub mod Meaning
 pub mod Moments
+pub mod Numbering
 pub mod Operands
 pub mod Outcomes
+pub mod Places
 pub mod Refines
+pub mod Renaming
 pub mod Rows
 pub mod Values
 pub mod Worked
