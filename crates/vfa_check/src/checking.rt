@@ -1,6 +1,6 @@
 //! The check of a function.
 
-ghost use Rattle.std.specs.Prelude.{◌≡◌, ◌⊎◌, List, IfErr, IfOk, MatchBool};
+ghost use Rattle.std.specs.Prelude.{◌≡◌, ◌⊎◌, ℕ, Bool, List, IfErr, IfOk, MatchBool};
 ghost use Rattle.vfa_cfg.specs.Heads.{is_head};
 ghost use Rattle.vfa_cfg.specs.Order.{IsOrder};
 ghost use Rattle.vfa_cfg.specs.Ordered.{IsOrdered};
@@ -66,10 +66,12 @@ impl Checked {
         &self.function
     }
 
-    /// The order of its blocks: reverse postorder of the depth-first walk from the entry.
+    /// The order of its blocks: reverse postorder of the depth-first walk from the entry. There is a test that tells which names
+    /// are in scope at the entry of each block, as `defined` does.
     pub fn order(&self) -> &[BlockId]
         ensures order { IsOrder self.now result.now }
         ensures ordered { IsOrdered self.now result.now }
+        ensures scopes { (in_scope : ℕ → ℕ → Bool) × ((b v : ℕ) → MatchBool (in_scope b v) (IsDefinedAt self.now b 0 v) (IsMissedAt self.now b 0 v)) }
     {
         self.parts.order.as_slice()
     }
