@@ -5,5 +5,6 @@ mod Nothing
 mod Parts
 mod Searched
 mod Shifts
+mod UsableParts
 mod Users
 mod Within

@@ -5,6 +5,7 @@ ghost use Rattle.vfa_ir.specs.Operands.{operands_of};
 ghost use Rattle.vfa_word.specs.Numbers.{IsWidth};
 
 use super::*;
+use crate::least::least_masks;
 use std::alloc::{AllocError, Global};
 use vfa_ir::{
     Bin, Block, Cast, CastFlags, Flags, Function, Inst, Items, Name, Op, Operand, Param, Term, Ty,
@@ -92,6 +93,24 @@ fn casts_ask_below_the_width(rt: HostRuntime) {
     assert!(rt; asked(&cast(Cast::Sext, 8, 16), 8, 0, 0x7f) == 0x7f);
     assert!(rt; asked(&cast(Cast::Sext, 1, 128), 1, 0, 1 << 127) == 1);
     assert!(rt; asked(&cast(Cast::Trunc, 16, 8), 16, 0, 0x81) == 0x81);
+}
+
+#[test]
+fn each_row_at_its_edges(rt: HostRuntime) {
+    // At width 1 the sign is the only bit, and at width 128 it is the last one of a mask.
+    let one = binary(Bin::Ashr, 1, name(0), Operand::Literal(0));
+    assert!(rt; asked(&one, 1, 0, 1) == 1);
+    let last = binary(Bin::Ashr, 128, name(0), Operand::Literal(127));
+    assert!(rt; asked(&last, 128, 0, 1) == 1 << 127);
+    let far = binary(Bin::Lshr, 64, name(0), Operand::Literal(63));
+    assert!(rt; asked(&far, 64, 0, 3) == 1 << 63);
+    let whole = binary(Bin::Shl, 128, name(0), Operand::Literal(127));
+    assert!(rt; asked(&whole, 128, 0, 1 << 127) == 1);
+    let product = binary(Bin::Mul, 128, name(0), name(1));
+    assert!(rt; asked(&product, 128, 0, 1 << 127) == u128::MAX);
+    assert!(rt; asked(&cast(Cast::Zext, 64, 128), 64, 0, u128::MAX) == u64::MAX as u128);
+    assert!(rt; asked(&cast(Cast::Sext, 64, 65), 64, 0, 1 << 64) == 1 << 63);
+    assert!(rt; asked(&cast(Cast::Trunc, 128, 1), 128, 0, 1) == 1);
 }
 
 #[test]
@@ -206,6 +225,6 @@ fn truncating(alloc: Global) -> Result<Function, AllocError> {
 fn only_bits_that_are_returned_are_asked_for(rt: HostRuntime) {
     let f = truncating(rt.alloc()).expect(&rt, "memory");
     assert!(rt; is_usable_function(&f));
-    let masks = masks(rt.alloc(), &f).expect(&rt, "memory");
+    let masks = least_masks(rt.alloc(), &f).expect(&rt, "memory");
     assert!(rt; masks.as_slice() == [255, 255, 0].as_slice());
 }

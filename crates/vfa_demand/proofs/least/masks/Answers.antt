@@ -1,10 +1,8 @@
-use Rattle.std.proofs.Common.{subst, sym, length}
-use Rattle.std.specs.Prelude.{All, List}
-use Rattle.vfa_ir.specs.declared.functions.Block.{Block}
-use Rattle.vfa_demand.specs.Usable.{IsUsableBlock}
+use Rattle.std.proofs.Common.{subst, sym}
+use Rattle.vfa_demand.specs.Usable.{AreUsable}
+use Rattle.vfa_demand.proofs.UsableParts.{printable_usable}
 use Rattle.vfa_demand.proofs.least.masks.Goals as goal
 
-pub ask_blocks-requires : goal.ask_blocks-requires
-ask_blocks-requires c =
-    subst (λ (bs : List Block). All (IsUsableBlock c.args.f.now (length c.loop-growing.growing.bits.items)) bs) (sym c.as_slice-in-loop-growing.ensures)
-    (subst (λ n. All (IsUsableBlock c.args.f.now n) c.args.f.now.blocks) (sym c.loop-growing.invariant.same_length) c.requires)
+pub least_masks-requires : goal.least_masks-requires
+least_masks-requires c =
+    subst AreUsable (sym c.function.ensures.same) (printable_usable c.args.f.now (c.fit_is_printable.ensures c.args.f.now c.function.ensures.checked.fit))

@@ -1,5 +1,5 @@
 use Rattle.vfa_demand.proofs.Searched.{IsSearched, left_of}
-use Rattle.vfa_demand.proofs.least.masks.Given as goal
+use Rattle.vfa_demand.proofs.least.least_masks.Given as goal
 
 abbrev pub invariant-loop-growing : goal.invariant-loop-growing
 invariant-loop-growing l = IsSearched l.f l.growing.bits.items l.growing.grew
