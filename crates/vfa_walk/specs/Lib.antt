@@ -1,3 +1,16 @@
+pub mod Analysis
+pub mod Cursors
 pub mod Flow
+pub mod Joining
+pub mod Kept
+pub mod Landmarks
+pub mod Leaving
+pub mod Marks
 pub mod Passes
+pub mod Ready
 pub mod Rounds
+pub mod Sending
+pub mod Stepping
+pub mod Tables
+pub mod TruthLaws
+pub mod TruthReads

@@ -1,4 +1,26 @@
 //! Walks of states through the blocks of a function.
 #![tactic(auto)]
 
+mod blocks;
+mod cursor;
+mod definitions;
+mod joining;
+mod landmarks;
 pub mod laws;
+mod leaving;
+mod loop_free;
+mod operands;
+mod pairs;
+mod passes;
+mod ready;
+mod stepping;
+mod tables;
+mod telling;
+pub mod truth;
+mod widening;
+
+pub use cursor::{Cursor, Moved, cursor_has_the_state_at_its_place};
+pub use loop_free::table_without_loops;
+pub use pairs::{edge_state, pair_state};
+pub use passes::{Passed, pass};
+pub use tables::Table;

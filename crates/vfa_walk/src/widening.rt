@@ -1,0 +1,190 @@
+//! Heads that are widened.
+
+ghost use Rattle.std.specs.Prelude.{◌≡◌, ◌≤◌, ◌<◌, ◌^◌, ℕ, [], get_or, length, IfOk};
+ghost use Rattle.std.specs.Option.{ForSome, option_map};
+ghost use Rattle.vfa_values.specs.Conditions.{IsOf, width_of};
+ghost use Rattle.vfa_cond.specs.Conditions.{AreFacts, name_type};
+ghost use Rattle.vfa_cond.specs.States.{known};
+ghost use Rattle.vfa_walk.specs.Joining.{widened};
+ghost use Rattle.vfa_walk.specs.Kept.{IsStateOf, taken};
+ghost use Rattle.vfa_walk.specs.Marks.{AreMarksOf};
+ghost use Rattle.vfa_walk.specs.Passes.{merged};
+
+use crate::joining::take_over;
+use crate::pairs::same;
+use crate::passes::{copied, type_of};
+use std::alloc::{AllocError, Global};
+use std::marker::Model;
+use vfa_cond::State;
+use vfa_ir::{Function, Ty, ValueId};
+use vfa_values::Values;
+
+/// The landmarks of each width, by the width.
+#[derive(Drop)]
+pub(crate) struct Marks {
+    of_width: Vec<Vec<u128>>,
+}
+
+impl Model for Marks {
+    ghost use Rattle.std.specs.Prelude.{List, map, ℕ};
+
+    ghost Value = { List (List ℕ) };
+
+    ghost view = { λ m. map (λ v. v.items) m.of_width.items };
+}
+
+impl Marks {
+    /// The landmarks of a width.
+    fn at(&self, width: u32) -> &[u128]
+        ensures { result.now ≡ get_or self.now width [] }
+    {
+        match self.of_width.get(width as usize) {
+            Some(marks) => marks.as_slice(),
+            None => &[],
+        }
+    }
+}
+
+fn width_of(of_type: Ty) -> u32
+    ensures { result ≡ width_of of_type }
+{
+    match of_type {
+        Ty::Int(width) | Ty::Pair(width) => width,
+    }
+}
+
+/// The old fact of a name widened by the new one.
+fn widened_fact<V: Values>(
+    f: &Function,
+    old: &State<V>,
+    new: &State<V>,
+    v: ValueId,
+    round: u32,
+    marks: &Marks,
+) -> Option<V>
+    requires first { AreFacts V.ty V.proper f.now (known old.now) }
+    requires second { AreFacts V.ty V.proper f.now (known new.now) }
+    requires round { 1 ≤ round }
+    requires marks { AreMarksOf f.now marks.now }
+    ensures fact { result ≡ (widened V.answers f.now round (known old.now) (known new.now)).fact v.0 }
+    ensures of_type { ForSome result (IsOf V.ty V.proper (name_type f.now v.0)) }
+{
+    let Some(first) = old.fact(v) else {
+        return None;
+    };
+    let Some(second) = new.fact(v) else {
+        return None;
+    };
+    Some(first.widen(&second, round, marks.at(width_of(type_of(f, v)))))
+}
+
+/// Widens what a state knows of a name.
+fn widen_name<V: Values>(
+    state: &mut State<V>,
+    f: &Function,
+    new: &State<V>,
+    v: ValueId,
+    round: u32,
+    marks: &Marks,
+)
+    requires state { IsStateOf V.ty V.proper f.now state.old }
+    requires new { IsStateOf V.ty V.proper f.now new.now }
+    requires name { v.0 < length f.now.values }
+    requires round { 1 ≤ round }
+    requires marks { AreMarksOf f.now marks.now }
+    ensures change { known state.new ≡ taken v.0 (widened V.answers f.now round (known state.old) (known new.now)) (known state.old) }
+    ensures state { IsStateOf V.ty V.proper f.now state.new }
+{
+    let live = state.live(v) & new.live(v);
+    let fact = widened_fact(f, state, new, v, round, marks);
+    take_over(state, f, v, fact, live);
+}
+
+/// Widens the old state of a head by the new one.
+pub(crate) fn widen<V: Values>(
+    state: &mut State<V>,
+    f: &Function,
+    new: &State<V>,
+    round: u32,
+    marks: &Marks,
+)
+    requires state { IsStateOf V.ty V.proper f.now state.old }
+    requires new { IsStateOf V.ty V.proper f.now new.now }
+    requires few { length f.now.values ≤ 2 ^ 28 }
+    requires round { 1 ≤ round }
+    requires marks { AreMarksOf f.now marks.now }
+    ensures change { known state.new ≡ widened V.answers f.now round (known state.old) (known new.now) }
+    ensures state { IsStateOf V.ty V.proper f.now state.new }
+{
+    'names: for v in 0..f.values.as_slice().len() {
+        widen_name(state, f, new, ValueId(v as u32), round, marks);
+    }
+}
+
+/// The old state of a head widened by the new one, of which each may be none: what is not there gives way.
+fn widened_entry<V: Values>(
+    alloc: Global,
+    f: &Function,
+    old: &Option<State<V>>,
+    new: &Option<State<V>>,
+    round: u32,
+    marks: &Marks,
+) -> Result<Option<State<V>>, AllocError>
+    requires old { ForSome old.now (IsStateOf V.ty V.proper f.now) }
+    requires new { ForSome new.now (IsStateOf V.ty V.proper f.now) }
+    requires few { length f.now.values ≤ 2 ^ 28 }
+    requires round { 1 ≤ round }
+    requires marks { AreMarksOf f.now marks.now }
+    ensures widened { IfOk result (λ o. option_map known o ≡ merged (widened V.answers f.now round) (option_map known old.now) (option_map known new.now)) }
+    ensures state { IfOk result (λ o. ForSome o (IsStateOf V.ty V.proper f.now)) }
+{
+    match old {
+        Some(old) => widened_by(alloc, f, old, new, round, marks),
+        None => copied(alloc, f, new),
+    }
+}
+
+/// A state of a head widened by the new one, which may be none.
+fn widened_by<V: Values>(
+    alloc: Global,
+    f: &Function,
+    old: &State<V>,
+    new: &Option<State<V>>,
+    round: u32,
+    marks: &Marks,
+) -> Result<Option<State<V>>, AllocError>
+    requires old { IsStateOf V.ty V.proper f.now old.now }
+    requires new { ForSome new.now (IsStateOf V.ty V.proper f.now) }
+    requires few { length f.now.values ≤ 2 ^ 28 }
+    requires round { 1 ≤ round }
+    requires marks { AreMarksOf f.now marks.now }
+    ensures widened { IfOk result (λ o. option_map known o ≡ merged (widened V.answers f.now round) (Some (known old.now)) (option_map known new.now)) }
+    ensures state { IfOk result (λ o. ForSome o (IsStateOf V.ty V.proper f.now)) }
+{
+    match new {
+        Some(new) => Ok(Some(widened_copy(alloc, f, old, new, round, marks)?)),
+        None => same(alloc, f, old),
+    }
+}
+
+/// A state of a head widened by the new one, as a state of its own.
+fn widened_copy<V: Values>(
+    alloc: Global,
+    f: &Function,
+    old: &State<V>,
+    new: &State<V>,
+    round: u32,
+    marks: &Marks,
+) -> Result<State<V>, AllocError>
+    requires old { IsStateOf V.ty V.proper f.now old.now }
+    requires new { IsStateOf V.ty V.proper f.now new.now }
+    requires few { length f.now.values ≤ 2 ^ 28 }
+    requires round { 1 ≤ round }
+    requires marks { AreMarksOf f.now marks.now }
+    ensures widened { IfOk result (λ s. known s ≡ widened V.answers f.now round (known old.now) (known new.now)) }
+    ensures state { IfOk result (IsStateOf V.ty V.proper f.now) }
+{
+    let mut state = old.copied(alloc)?;
+    widen(&mut state, f, new, round, marks);
+    Ok(state)
+}
