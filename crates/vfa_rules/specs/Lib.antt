@@ -1,0 +1,10 @@
+pub mod Facts
+pub mod Conditions
+pub mod Ready
+pub mod Rules
+pub mod Order
+pub mod BlockUses
+pub mod Uses
+pub mod Results
+pub mod Shapes
+pub mod Sources
