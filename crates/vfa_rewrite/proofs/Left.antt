@@ -1,0 +1,23 @@
+-- Elements of lists that are made with their numbers, and of longer lists.
+use Rattle.std.proofs.Common.{◌≡◌, ℕ, zero, suc, ◌+◌, ◌<◌, List, [], ◌∷◌, ◌++◌, Some, slice_get, length, refl, arith}
+use Rattle.std.proofs.lemmas.Option.{same_Some}
+use Rattle.vfa_rewrite.specs.Rewritten.{with_numbers}
+
+get_from : {A B : Type 0} (make : ℕ → A → B) (i : ℕ) (xs : List A) (n k : ℕ) (x : A) → slice_get xs n ≡ Some x → k ≡ i + n →
+    slice_get (with_numbers make i xs) n ≡ Some (make k x)
+get_from make i [] n k x h e = absurd (cc)
+get_from make i (y ∷ xs) zero k x h e =
+    let same : y ≡ x = same_Some y x h in
+    let here : k ≡ i = omega (arith, e) in
+    cc
+get_from make i (y ∷ xs) (suc n) k x h e = get_from make (suc i) xs n k x h (omega (arith, e))
+
+pub made_at : {A B : Type 0} (make : ℕ → A → B) (xs : List A) (n : ℕ) (x : A) → slice_get xs n ≡ Some x →
+    slice_get (with_numbers make 0 xs) n ≡ Some (make n x)
+made_at make xs n x h = get_from make 0 xs n n x h (omega arith)
+
+-- what stands in a list stands there with more behind it
+pub get_before : {A : Type 0} (xs ys : List A) (n : ℕ) → n < length xs → slice_get (xs ++ ys) n ≡ slice_get xs n
+get_before [] ys n h = absurd (omega (arith, h))
+get_before (x ∷ xs) ys zero h = refl
+get_before (x ∷ xs) ys (suc n) h = get_before xs ys n (omega (arith, h))

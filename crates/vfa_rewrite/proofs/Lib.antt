@@ -1,0 +1,20 @@
+pub mod Agreement
+mod Becoming
+mod ChangeForms
+mod FactChanges
+mod FactDecisions
+mod Instructions
+mod KeptNames
+mod Left
+mod Lines
+mod LiveOperands
+mod Lockstep
+mod MarkedBlocks
+mod MarkedLines
+mod Narrowing
+mod OneMarks
+mod OneOperand
+mod Operations
+mod Phis
+mod Ranges
+mod Terminators

@@ -1,0 +1,6 @@
+pub mod Alike
+pub mod ByFacts
+pub mod Findings
+pub mod Marks
+pub mod Rewritten
+pub mod Sound

@@ -1,0 +1,56 @@
+//! Laws of rewriting.
+
+ghost use Rattle.vfa_ir.specs.declared.functions.Function.{Function};
+ghost use Rattle.vfa_ir.specs.Defined.{Defined};
+ghost use Rattle.vfa_ir.specs.Printable.{IsPrintable};
+ghost use Rattle.vfa_ir.specs.Typed.{Typed};
+ghost use Rattle.vfa_mean.specs.Refines.{Refines};
+ghost use Rattle.vfa_check.specs.Checked.{IsChecked};
+ghost use Rattle.vfa_walk.specs.Tables.{IsTableOf, IsTrueTable};
+ghost use Rattle.vfa_walk.specs.TruthLaws.{HasTypedFacts};
+ghost use Rattle.vfa_xfer.specs.AnyFacts.{HoldsOf, IsAnyFact, fact_type};
+ghost use Rattle.vfa_xfer.specs.Transfers.{fact_answers};
+ghost use Rattle.vfa_rewrite.specs.Alike.{AreAlike};
+ghost use Rattle.vfa_rewrite.specs.ByFacts.{FactTable, findings_of};
+ghost use Rattle.vfa_rewrite.specs.Findings.{AreTrue, Findings};
+ghost use Rattle.vfa_rewrite.specs.Marks.{AreMarks};
+ghost use Rattle.vfa_rewrite.specs.Rewritten.{Marks, rewritten};
+ghost use Rattle.vfa_rewrite.specs.Sound.{AreSound};
+
+/// What is left of a function by sound marks refines it: for all arguments, all answers of the functions that it calls and
+/// any number of entered blocks, each outcome of what is left is allowed by an outcome of the function.
+pub fn rewriting_refines()
+    ensures { (f : Function) (m : Marks) → AreSound f m → Refines f (rewritten f m) }
+{}
+
+/// The marks that true findings give of a function are sound.
+pub fn marks_are_sound()
+    ensures { (f : Function) (found : Findings) (m : Marks) → IsPrintable f → Typed f → Defined f → AreTrue f found →
+        AreMarks f found m → AreSound f m }
+{}
+
+/// What a true table of facts and the rules on single instructions find out of a checked function is true.
+pub fn findings_are_true()
+    ensures { (f : Function) (t : FactTable) → IsChecked f → IsPrintable f → HasTypedFacts fact_type IsAnyFact f t →
+        IsTrueTable HoldsOf f t → AreTrue f (findings_of f t) }
+{}
+
+/// Rewriting by the facts of a true table refines: marks that the table and the rules on single instructions give leave of a
+/// checked function one that refines it, calls as events included.
+pub fn rewriting_by_facts_refines()
+    ensures { (f : Function) (t : FactTable) (m : Marks) → IsChecked f → IsPrintable f → HasTypedFacts fact_type IsAnyFact f t →
+        IsTrueTable HoldsOf f t → AreMarks f (findings_of f t) m → Refines f (rewritten f m) }
+{}
+
+/// Two marks of the same true findings leave the same, but for the names that narrowing adds: the same blocks, edges, names and
+/// lines, with the same operands.
+pub fn marks_are_one()
+    ensures { (f : Function) (found : Findings) (m m' : Marks) → IsPrintable f → AreTrue f found → AreMarks f found m →
+        AreMarks f found m' → AreAlike f found m m' }
+{}
+
+/// So does rewriting by the table of the function, which is true.
+pub fn rewriting_by_the_table_refines()
+    ensures { (f : Function) (t : FactTable) (m : Marks) → IsChecked f → IsPrintable f → IsTableOf fact_answers f t →
+        AreMarks f (findings_of f t) m → Refines f (rewritten f m) }
+{}

@@ -1,0 +1,10 @@
+//! Rewriting by facts (LLVM's CorrelatedValuePropagation): what is left of a function where facts decide operands, edges
+//! and operations.
+#![tactic(auto)]
+
+mod laws;
+
+pub use laws::{
+    findings_are_true, marks_are_one, marks_are_sound, rewriting_by_facts_refines,
+    rewriting_by_the_table_refines, rewriting_refines,
+};
