@@ -1,0 +1,6 @@
+pub mod Changed
+pub mod Narrowed
+pub mod Sizes
+pub mod Standing
+pub mod Tables
+pub mod Used
