@@ -1,0 +1,4 @@
+pub mod FirstUses
+pub mod LineTexts
+pub mod ReportTrue
+pub mod ShownFacts

@@ -1,0 +1,6 @@
+pub mod FactLines
+pub mod Met
+pub mod Report
+pub mod ReportTruth
+pub mod Showing
+pub mod Uses

@@ -1,0 +1,13 @@
+//! Reports on functions: what a table says of each of their names, a line each.
+#![tactic(auto)]
+
+mod cells;
+mod laws;
+mod lines;
+mod truth;
+mod uses;
+
+pub use laws::lines_show_facts;
+pub use lines::fact_line;
+pub use truth::{one_report, reports_hold};
+pub use uses::names_in;
