@@ -1,2 +1,3 @@
-mod SourceInputs
 mod EachInput
+mod SourceInputs
+mod Words

@@ -1,7 +1,9 @@
 -- The words of a command, which stand after the name of the program, and the input that a command works on.
-use Rattle.std.specs.Prelude.{ℕ, ◌≡◌, ◌==◌, Bool, true, false, List, [], ◌∷◌, map, Some, codes, String, string_bytes, bytes_eq, if◌then◌else◌}
+use Rattle.std.specs.Prelude.{ℕ, ◌≡◌, ◌≤◌, ◌==◌, ◌&&◌, ◌||◌, Bool, true, false, not, nat_lt, List, [], ◌∷◌, length, map, Option, Some, None, codes, String, string_bytes, bytes_eq, if◌then◌else◌}
 use Rattle.std.specs.Global.{Global}
+use Rattle.std.specs.List.{list_all, position_or_len, before_first, after_first}
 use Rattle.std.specs.Str.{byte}
+use Rattle.std.specs.Str.Parse.{IsNumeral, digits_value}
 use Rattle.vfa_io.specs.States.{SourceState, Change}
 use Rattle.vfa_opt.specs.declared.jobs.Job.{Job}
 use Rattle.vfa.specs.declared.command.Command.{Command}
@@ -13,6 +15,8 @@ texts = map (λ (word : String Global). string_bytes word)
 abbrev pub job_word : Job → List ℕ
 job_word Job.Opt = codes "opt"
 
+-- ---- options and other words
+
 -- a word that begins with `-`, unless it is `-` alone
 abbrev pub is_option : List ℕ → Bool
 is_option [] = false
@@ -23,28 +27,101 @@ is_option (b ∷ c ∷ rest) = b == byte "-"
 abbrev pub ends_options : List ℕ → Bool
 ends_options word = bytes_eq word (codes "--")
 
--- the options among the words
-abbrev pub options : List (List ℕ) → List (List ℕ)
-options [] = []
-options (word ∷ words) =
-    if ends_options word then [] else (if is_option word then word ∷ options words else options words)
+-- an option as it is written: its name, and its value where it has one
+pub record Written : Type 0 where
+  pub name : List ℕ
+  pub value : Option (List ℕ)
 
--- the words that are no options: all behind `--` are none
+-- an option in one word: its name, and behind the first `=` its value, as `--workers=4`
+abbrev pub is_equals : ℕ → Bool
+is_equals b = b == byte "="
+
+abbrev pub has_equals : List ℕ → Bool
+has_equals word = nat_lt (position_or_len is_equals word) (length word)
+
+abbrev pub written : List ℕ → Written
+written word = record {
+  name = before_first is_equals word;
+  value = if has_equals word then Some (after_first is_equals word) else None;
+}
+
+-- the option whose value may be the next word, as `--workers 4`, and the one that has none
+abbrev pub workers_name : List ℕ
+workers_name = codes "--workers"
+
+abbrev pub strict_name : List ℕ
+strict_name = codes "--strict"
+
+-- the two words are an option and its value, which is no option
+abbrev pub are_option_and_value : List ℕ → List ℕ → Bool
+are_option_and_value word next = bytes_eq word workers_name && not (is_option next)
+
+-- the options among the words; behind `--` there are none
+abbrev pub options : List (List ℕ) → List Written
+options [] = []
+options (word ∷ []) = if ends_options word then [] else (if is_option word then written word ∷ [] else [])
+options (word ∷ next ∷ words) =
+    if ends_options word then []
+    else (if are_option_and_value word next then record { name = word; value = Some next } ∷ options words
+    else (if is_option word then written word ∷ options (next ∷ words) else options (next ∷ words)))
+
+-- the words that are no options and no values of options: all behind `--` are none
 abbrev pub positional : List (List ℕ) → List (List ℕ)
 positional [] = []
-positional (word ∷ words) =
-    if ends_options word then words else (if is_option word then positional words else word ∷ positional words)
+positional (word ∷ []) = if ends_options word then [] else (if is_option word then [] else word ∷ [])
+positional (word ∷ next ∷ words) =
+    if ends_options word then next ∷ words
+    else (if are_option_and_value word next then positional words
+    else (if is_option word then positional (next ∷ words) else word ∷ positional (next ∷ words)))
 
-abbrev pub strict_options : Bool → List (List ℕ)
-strict_options false = []
-strict_options true = codes "--strict" ∷ []
+-- ---- commands
 
--- The words ask for this command. Of the words that are no options there is one, the job; and of the options one,
--- `--strict`, where the command is strict, and else none. So `opt --strict`, `--strict opt` and `--strict -- opt` are the
--- same command, and `opt -- --strict` is none.
+-- the values that are written for the options of a name, in order; None for one that has no value
+abbrev pub values_of : List ℕ → List Written → List (Option (List ℕ))
+values_of name [] = []
+values_of name (o ∷ rest) = if bytes_eq o.name name then o.value ∷ values_of name rest else values_of name rest
+
+abbrev pub is_known : Written → Bool
+is_known o = bytes_eq o.name strict_name || bytes_eq o.name workers_name
+
+-- `--strict` stands once, without a value, or not at all
+abbrev pub strict_values : Bool → List (Option (List ℕ))
+strict_values false = []
+strict_values true = None ∷ []
+
+-- the most digits of a number of workers, and the most workers
+abbrev pub most_digits : ℕ
+most_digits = 10
+
+abbrev pub most_workers : ℕ
+most_workers = 64
+
+-- one to ten decimal digits that stand for a number of 1 to 64
+pub record IsWorkers (digits : List ℕ) (n : ℕ) : Type 0 where
+  pub numeral : IsNumeral 10 digits
+  pub few : length digits ≤ most_digits
+  pub is : n ≡ digits_value 10 digits
+  pub least : 1 ≤ n
+  pub most : n ≤ most_workers
+
+-- the number of workers by the values of `--workers`: it stands once, with a number, or not at all, and then there is one worker
+abbrev pub AreWorkers : List (Option (List ℕ)) → ℕ → Type 0
+AreWorkers [] n = n ≡ 1
+AreWorkers (Some digits ∷ []) n = IsWorkers digits n
+AreWorkers _ n = ⊥
+
+-- The words ask for this command. Of the words that are no options there is one, the job; and each option is `--strict` or
+-- `--workers`, and stands once at most. So `opt --workers 4 --strict`, `--strict opt --workers=4` and `--workers 4 --strict -- opt`
+-- are the same command, and `opt -- --strict` is none.
 pub record AreCommand (words : List (List ℕ)) (command : Command) : Type 0 where
   pub job : positional words ≡ job_word command.job ∷ []
-  pub options_are : options words ≡ strict_options command.strict
+  pub known : list_all is_known (options words) ≡ true
+  pub strict : values_of strict_name (options words) ≡ strict_values command.strict
+  pub workers : AreWorkers (values_of workers_name (options words)) command.workers
+
+-- the command has from one to the most workers
+abbrev pub HasWorkers : Command → Type 0
+HasWorkers command = (1 ≤ command.workers) × (command.workers ≤ most_workers)
 
 -- What a job works on. `opt`: the bytes that the source has left, where it tells them.
 abbrev pub IsInputOf : Job → SourceState → List ℕ → Type 0

@@ -14,6 +14,7 @@ use status::Status;
 use std::process::ExitCode;
 use std::{env, io};
 use vfa_io::{StdSink, StdSource, Stream};
+use vfa_par::OpenGate;
 
 fn main(rt: HostRuntime) -> ExitCode {
     let words = match words_of(&rt) {
@@ -27,7 +28,7 @@ fn main(rt: HostRuntime) -> ExitCode {
     let mut source = StdSource::new(rt.stdin());
     let mut out = StdSink::new(Stream::Output(rt.stdout()));
     let mut err = StdSink::new(Stream::Error(rt.stderr()));
-    let status = vfa_run(&rt, &words, &mut source, &mut out, &mut err);
+    let status = vfa_run(&rt, &words, &mut source, &mut out, &mut err, &OpenGate);
     ExitCode::from(status.exit_number())
 }
 

@@ -6,7 +6,7 @@ ghost use Rattle.vfa.specs.declared.command.Command.{Command};
 ghost use Rattle.vfa.specs.declared.refusals.Refusal.{Refusal};
 ghost use Rattle.vfa.specs.declared.refusals.Refusal.TheVariants.{TooLong};
 ghost use Rattle.vfa.specs.declared.run.Stop.TheVariants.{Memory as OutOfMemory};
-ghost use Rattle.vfa.specs.Command.{texts, AreCommand, Asks, IsInputOf, IsReadBy};
+ghost use Rattle.vfa.specs.Command.{texts, HasWorkers, AreCommand, Asks, IsInputOf, IsReadBy};
 ghost use Rattle.vfa.specs.Refusals.{most, IsRefusal, refusal_text};
 ghost use Rattle.vfa.specs.Run.{usage_line, fault_read, Reports, IsAnswer, IsDone, IsRefused, StoppedInText, StoppedInNotes, IsWriteFault};
 ghost use Rattle.vfa.specs.Stops.{IsInputStop, IsStop, IsStopOf, IsReadStop};
@@ -14,9 +14,11 @@ ghost use Rattle.vfa.specs.Stops.{IsInputStop, IsStop, IsStopOf, IsReadStop};
 use crate::command::{Command, command_of};
 use crate::refusals::{Refusal, message_of};
 use crate::status::Status;
-use std::alloc::Global;
+use std::alloc::{AllocGlobal, Global};
+use std::thread::Threads;
 use vfa_io::{Failed, ReadFault, Sink, Source, read_all, write_all};
 use vfa_opt::{Refused, Text, module_out};
+use vfa_par::Gate;
 
 /// The most bytes that an input may have.
 const MOST: usize = 1 << 24;
@@ -49,21 +51,40 @@ fn stop_of(alloc: Global, refusal: &Refusal) -> Stop
 }
 
 // The command's text of the input's module, and the notes on it.
-fn answer(alloc: Global, command: &Command, input: &[u8]) -> Result<Text, Stop>
-    requires { length input.now ≤ most }
+fn answer<R: AllocGlobal + Threads + Sync, G: Gate>(
+    rt: &R,
+    command: &Command,
+    input: &[u8],
+    gate: &G,
+) -> Result<Text, Stop>
+    requires limit { length input.now ≤ most }
+    requires workers { HasWorkers command.now }
     ensures answer { IfOk result (λ text. IsAnswer command.now input.now text.out.items text.notes.items) }
     ensures stop { IfErr result (IsInputStop command.now input.now) }
     ensures read { IfErr result (λ stop. IsReadStop stop → ⊥) }
     ensures refuses { (reason : Refusal) → IsRefusal command.now input.now reason → OnOk result ⊥ × IfErr result (IsStopOf reason) }
 {
-    match module_out(alloc, &command.job, command.strict, input) {
+    match module_out(
+        rt,
+        &command.job,
+        command.workers,
+        command.strict,
+        input,
+        gate,
+    ) {
         Ok(text) => Ok(text),
-        Err(refused) => Err(stop_of(alloc, &Refusal::Module(refused))),
+        Err(refused) => Err(stop_of(rt.alloc(), &Refusal::Module(refused))),
     }
 }
 
 // The text and the notes for all that the source has left.
-fn answer_source<S: Source>(alloc: Global, command: &Command, source: &mut S) -> Result<Text, Stop>
+fn answer_source<R: AllocGlobal + Threads + Sync, S: Source, G: Gate>(
+    rt: &R,
+    command: &Command,
+    source: &mut S,
+    gate: &G,
+) -> Result<Text, Stop>
+    requires { HasWorkers command.now }
     ensures answer { (input : List ℕ) → IsInputOf command.now.job (S.state source.old) input →
         IfOk result (λ text. IsAnswer command.now input text.out.items text.notes.items) }
     ensures end { (input : List ℕ) → IsInputOf command.now.job (S.state source.old) input →
@@ -79,13 +100,13 @@ fn answer_source<S: Source>(alloc: Global, command: &Command, source: &mut S) ->
         GaveMore (change S.state source.old source.new) most → OnOk result ⊥ × IfErr result (IsStopOf TooLong) }
     ensures later { (S.state source.old).faults ≤ (S.state source.new).faults }
 {
-    let input = match read_all(alloc, source, MOST) {
+    let input = match read_all(rt.alloc(), source, MOST) {
         Ok(input) => input,
         Err(ReadFault::Read) => return Err(Stop::Read),
-        Err(ReadFault::TooLong) => return Err(stop_of(alloc, &Refusal::TooLong)),
+        Err(ReadFault::TooLong) => return Err(stop_of(rt.alloc(), &Refusal::TooLong)),
         Err(ReadFault::Memory) => return Err(Stop::Memory),
     };
-    answer(alloc, command, &input)
+    answer(rt, command, &input, gate)
 }
 
 // Writes a message. A fault of the sink is let go: it changes no status.
@@ -110,13 +131,15 @@ fn write_answer<O: Sink, E: Sink>(out: &mut O, err: &mut E, text: &Text) -> Resu
 }
 
 // Runs a command.
-fn run_command<S: Source, O: Sink, E: Sink>(
-    alloc: Global,
+fn run_command<R: AllocGlobal + Threads + Sync, S: Source, O: Sink, E: Sink, G: Gate>(
+    rt: &R,
     command: &Command,
     source: &mut S,
     out: &mut O,
     err: &mut E,
+    gate: &G,
 ) -> Status
+    requires { HasWorkers command.now }
     ensures not_usage { result ≡ Status.Usage → ⊥ }
     ensures done { (input : List ℕ) → IsInputOf command.now.job (S.state source.old) input → result ≡ Status.Done →
         IsDone command.now input (change O.state out.old out.new) (change E.state err.old err.new) }
@@ -148,7 +171,7 @@ fn run_command<S: Source, O: Sink, E: Sink>(
     ensures later { ((S.state source.old).faults ≤ (S.state source.new).faults)
         × ((O.state out.old).faults ≤ (O.state out.new).faults) × ((E.state err.old).faults ≤ (E.state err.new).faults) }
 {
-    match answer_source(alloc, command, source) {
+    match answer_source(rt, command, source, gate) {
         Ok(text) => match write_answer(out, err, &text) {
             Ok(()) => Status::Done,
             Err(Failed) => Status::WriteFault,
@@ -168,13 +191,16 @@ fn run_command<S: Source, O: Sink, E: Sink>(
 /// Runs a command: reads the words, then all of the source, and writes the answer to out and the notes, or a message, to
 /// err.
 ///
-/// `opt` reads a module (`docs/LANGUAGE.md`) and writes it with the constants of its functions folded.
-pub fn vfa_run<R: AllocGlobal, S: Source, O: Sink, E: Sink>(
+/// `opt` reads a module (`docs/LANGUAGE.md`) and writes it with the constants of its functions folded. The work on functions is
+/// done by as many workers as the command asks for, each piece of it after the gate; what is written is the same for every
+/// number of them.
+pub fn vfa_run<R: AllocGlobal + Threads + Sync, S: Source, O: Sink, E: Sink, G: Gate>(
     rt: &R,
     words: &[String],
     source: &mut S,
     out: &mut O,
     err: &mut E,
+    gate: &G,
 ) -> Status
     // Done: out has the command's text of the input's module, in which each function that is printed reads as one that
     // refines the function that was read, and err has the notes. The input was read to its end.
@@ -235,5 +261,5 @@ pub fn vfa_run<R: AllocGlobal, S: Source, O: Sink, E: Sink>(
         say(err, USAGE);
         return Status::Usage;
     };
-    run_command(rt.alloc(), &command, source, out, err)
+    run_command(rt, &command, source, out, err, gate)
 }

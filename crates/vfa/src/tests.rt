@@ -7,12 +7,15 @@ mod limits;
 mod printed;
 mod refused;
 mod strict;
+mod workers;
 
 use crate::run::vfa_run;
 use crate::status::Status;
 use std::process::Abort;
 use std::test::Fail;
+use std::thread::Threads;
 use vfa_io::{MemSink, MemSource};
+use vfa_par::OpenGate;
 
 /// A function whose result is always 0: the low bits of `%a` and the high ones of the mask have none in common.
 const MASK: &[u8] = b"define i8 @f(i8 %x) {
@@ -37,6 +40,9 @@ const POINTER: &[u8] = b"define ptr @f(ptr %p) {
 
 const POINTER_NOTE: &[u8] = b"note: @f carried: Shape at line 1\n";
 
+const USAGE_LINE: &[u8] =
+    b"usage: vfa opt|facts|ask|self [--workers N] [--strict] [--function F --value V --block B [--from P]] [--seed N]\n";
+
 /// How a run ends, and what out and err got.
 #[derive(Clone, Copy)]
 struct End<'a> {
@@ -54,7 +60,7 @@ struct Ends {
 }
 
 /// Runs a command of these words.
-fn check_words<R: AllocGlobal + Abort>(
+fn check_words<R: AllocGlobal + Abort + Threads + Sync>(
     rt: &R,
     words: &[&str],
     mut ends: Ends,
@@ -65,7 +71,14 @@ fn check_words<R: AllocGlobal + Abort>(
         all.push(String::from_str(rt.alloc(), word)?)?;
     }
     assert_eq!(rt;
-        vfa_run(rt, &all, &mut ends.source, &mut ends.out, &mut ends.err),
+        vfa_run(
+            rt,
+            &all,
+            &mut ends.source,
+            &mut ends.out,
+            &mut ends.err,
+            &OpenGate
+        ),
         want.status
     );
     assert_eq!(rt; ends.out.bytes(), want.out);
@@ -74,7 +87,7 @@ fn check_words<R: AllocGlobal + Abort>(
 }
 
 /// Runs a command of one word.
-fn check_run<R: AllocGlobal + Abort>(
+fn check_run<R: AllocGlobal + Abort + Threads + Sync>(
     rt: &R,
     word: &str,
     ends: Ends,
@@ -102,12 +115,20 @@ fn roomy<R: AllocGlobal>(rt: &R, input: &[u8], room: usize) -> Result<Ends, Fail
 }
 
 /// Runs `opt` over the input, in which nothing fails.
-fn check_opt<R: AllocGlobal + Abort>(rt: &R, input: &[u8], want: End) -> Result<(), Fail> {
+fn check_opt<R: AllocGlobal + Abort + Threads + Sync>(
+    rt: &R,
+    input: &[u8],
+    want: End,
+) -> Result<(), Fail> {
     check_run(rt, "opt", roomy(rt, input, 1 << 20)?, want)
 }
 
 /// Runs `opt` over the input, which prints this and has no note.
-fn check_prints<R: AllocGlobal + Abort>(rt: &R, input: &[u8], out: &[u8]) -> Result<(), Fail> {
+fn check_prints<R: AllocGlobal + Abort + Threads + Sync>(
+    rt: &R,
+    input: &[u8],
+    out: &[u8],
+) -> Result<(), Fail> {
     let status = Status::Done;
     check_opt(
         rt,
@@ -121,7 +142,11 @@ fn check_prints<R: AllocGlobal + Abort>(rt: &R, input: &[u8], out: &[u8]) -> Res
 }
 
 /// Runs `opt` over the input, which prints it again, with this note.
-fn check_carried<R: AllocGlobal + Abort>(rt: &R, input: &[u8], note: &[u8]) -> Result<(), Fail> {
+fn check_carried<R: AllocGlobal + Abort + Threads + Sync>(
+    rt: &R,
+    input: &[u8],
+    note: &[u8],
+) -> Result<(), Fail> {
     let status = Status::Done;
     check_opt(
         rt,
@@ -135,7 +160,11 @@ fn check_carried<R: AllocGlobal + Abort>(rt: &R, input: &[u8], note: &[u8]) -> R
 }
 
 /// Runs `opt` over the input, which is refused with this message.
-fn check_refused<R: AllocGlobal + Abort>(rt: &R, input: &[u8], message: &[u8]) -> Result<(), Fail> {
+fn check_refused<R: AllocGlobal + Abort + Threads + Sync>(
+    rt: &R,
+    input: &[u8],
+    message: &[u8],
+) -> Result<(), Fail> {
     let status = Status::Refused;
     check_opt(
         rt,

@@ -42,26 +42,13 @@ cover_placed input from (i ∷ rest) parts c =
     let o : start_of i ≤ end_of i = omega arith in
     (placed input i parts.0 o r, cover_placed input (end_of i) rest parts.1 c.2)
 
--- ---- works, one more
+-- ---- works
 
-worked_last : (job : Job) (input : List ℕ) (items : List Item) (all : List Worked) (item : Item) (worked : Worked) →
-    AreWorked job input items all → IsWorked job input item worked → AreWorked job input (items ++ item ∷ []) (all ++ worked ∷ [])
-worked_last job input [] [] item worked are is = (is, tt)
-worked_last job input [] (w ∷ all) item worked are is = absurd are
-worked_last job input (i ∷ items) [] item worked are is = absurd are
-worked_last job input (i ∷ items) (w ∷ all) item worked are is = (are.0, worked_last job input items all item worked are.1 is)
-
-pub worked_more : (job : Job) (input : List ℕ) (items : List Item) (i : ℕ) (d : Item) (all more : List Worked) (worked : Worked) → i < length items →
-    AreWorked job input (take i items) all → IsWorked job input (get_or items i d) worked → more ≡ all ++ worked ∷ [] →
-    AreWorked job input (take (i + 1) items) more
-worked_more job input items i d all more worked lt are is pushed =
-    subst (λ m. AreWorked job input (take (i + 1) items) m) (sym pushed)
-    (subst (λ front. AreWorked job input front (all ++ worked ∷ [])) (sym (take_more items i d lt))
-    (worked_last job input (take i items) all (get_or items i d) worked are is))
-
-pub worked_all : (job : Job) (input : List ℕ) (items : List Item) (i : ℕ) (all : List Worked) → length items ≤ i →
-    AreWorked job input (take i items) all → AreWorked job input items all
-worked_all job input items i all past are = subst (λ front. AreWorked job input front all) (take_all i items past) are
+-- each item can be worked on
+pub may_run : (input : List ℕ) (items : List Item) → length input ≤ 16777216 → AllByRecursion (IsPlaced input) items →
+    AllByRecursion (λ item. IsPlaced input item × (length input ≤ 16777216)) items
+may_run input [] limit all = tt
+may_run input (i ∷ items) limit all = ((all.0, limit), may_run input items limit all.1)
 
 pub within_all : (job : Job) (input : List ℕ) (items : List Item) (all : List Worked) → AreWorked job input items all → AllByRecursion (IsWithin input) all
 within_all job input [] [] are = tt

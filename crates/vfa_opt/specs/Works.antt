@@ -1,5 +1,6 @@
 -- The work on one item of a module, and what the works of all items make.
 use Rattle.std.specs.Prelude.{◌≡◌, ◌≤◌, ⊤, ℕ, Bool, true, List, [], ◌∷◌, ◌+◌, length, flat_map, filter_map, slice_range, Option, Some, None}
+use Rattle.std.specs.List.{AllZip}
 use Rattle.vfa_ir.specs.DefinedNames.{first_repeated}
 use Rattle.vfa_module.specs.declared.items.Item.{Item}
 use Rattle.vfa_opt.specs.declared.jobs.Job.{Job}
@@ -65,10 +66,9 @@ pub record IsWorked (job : Job) (input : List ℕ) (item : Item) (worked : Worke
   pub is : IsPiece input item piece
   pub work : IsWorkOn job input piece worked
 
+-- item by item
 abbrev pub AreWorked : Job → List ℕ → List Item → List Worked → Type 0
-AreWorked job input [] [] = ⊤
-AreWorked job input (item ∷ items) (worked ∷ rest) = IsWorked job input item worked × AreWorked job input items rest
-AreWorked job input _ _ = ⊥
+AreWorked job input items all = AllZip (IsWorked job input) items all
 
 -- the texts, the notes, the names of accepted functions and the functions that stay, in order
 abbrev pub texts_in : List ℕ → List Worked → List ℕ

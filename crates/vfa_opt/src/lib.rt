@@ -6,6 +6,7 @@ mod acceptance;
 mod defines;
 mod first;
 mod fold;
+mod item_work;
 mod jobs;
 mod joined;
 mod laws;

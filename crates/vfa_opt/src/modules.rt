@@ -11,13 +11,16 @@ ghost use Rattle.vfa_opt.specs.Works.{IsPlaced, AreWorked};
 ghost use Rattle.vfa_opt.specs.declared.refusals.Refused.{Refused};
 ghost use Rattle.vfa_opt.specs.declared.refusals.Refused.TheVariants.{Memory};
 
+use crate::item_work::ItemWork;
 use crate::jobs::Job;
 use crate::joined::{Text, joined};
 use crate::laws::{one_list_of_pieces, one_refusal};
 use crate::refusals::Refused;
-use crate::work::{Worked, work};
-use std::alloc::{AllocError, Global};
+use crate::work::Worked;
+use std::alloc::{AllocError, AllocGlobal, Global};
+use std::thread::Threads;
 use vfa_module::{Item, SplitFault, split};
+use vfa_par::{Gate, each};
 
 /// The items of a module's text.
 fn items_of(alloc: Global, bytes: &[u8]) -> Result<Vec<Item>, Refused>
@@ -34,29 +37,48 @@ fn items_of(alloc: Global, bytes: &[u8]) -> Result<Vec<Item>, Refused>
     }
 }
 
-/// The works on the items, in order.
-fn works(alloc: Global, job: &Job, bytes: &[u8], items: &[Item]) -> Result<Vec<Worked>, AllocError>
+/// The works on the items, in order, done by so many workers.
+fn works<R: AllocGlobal + Threads + Sync, G: Gate>(
+    rt: &R,
+    job: &Job,
+    workers: u32,
+    bytes: &[u8],
+    items: &[Item],
+    gate: &G,
+) -> Result<Vec<Worked>, AllocError>
     requires places { AllByRecursion (IsPlaced bytes.now) items.now }
     requires limit { length bytes.now ≤ 16777216 }
+    requires workers { (1 ≤ workers) × (workers ≤ 64) }
     ensures { IfOk result (λ all. AreWorked job.now bytes.now items.now all.items) }
 {
-    let mut all = Vec::with_capacity(alloc, items.len())?;
-    'items: for item in items {
-        let worked = work(alloc, job, bytes, item)?;
-        all.push(worked)?;
-    }
-    Ok(all)
+    each(
+        rt,
+        rt.alloc(),
+        workers,
+        items,
+        &ItemWork { job, bytes },
+        gate,
+    )
 }
 
 /// The text and the notes, or why the module is refused.
-fn worked_out(alloc: Global, job: &Job, strict: bool, bytes: &[u8]) -> Result<Text, Refused>
-    requires { length bytes.now ≤ 2 ^ 24 }
+fn worked_out<R: AllocGlobal + Threads + Sync, G: Gate>(
+    rt: &R,
+    job: &Job,
+    workers: u32,
+    strict: bool,
+    bytes: &[u8],
+    gate: &G,
+) -> Result<Text, Refused>
+    requires limit { length bytes.now ≤ 2 ^ 24 }
+    requires workers { (1 ≤ workers) × (workers ≤ 64) }
     ensures text { IfOk result (λ text. IsModuleText job.now strict bytes.now text.out.items text.notes.items) }
     ensures refined { OnOk result ((pieces : List Piece) × IsModule strict bytes.now pieces × All (IsRefined job.now) pieces) }
     ensures refused { IfErr result (λ e. (e ≡ Memory) ⊎ IsRefusal strict bytes.now e) }
 {
+    let alloc = rt.alloc();
     let items = items_of(alloc, bytes)?;
-    let all = works(alloc, job, bytes, &items)?;
+    let all = works(rt, job, workers, bytes, &items, gate)?;
     joined(alloc, strict, bytes, all)
 }
 
@@ -68,8 +90,19 @@ fn worked_out(alloc: Global, job: &Job, strict: bool, bytes: &[u8]) -> Result<Te
 /// A module is refused, in this order, with `Unclosed` or `BadLine` exactly where it does not split, with
 /// `DuplicateFunction` exactly where two functions of the profile have one name, and with `Strict` exactly where `strict`
 /// holds and a function stays as it is, the first one.
-pub fn module_out(alloc: Global, job: &Job, strict: bool, bytes: &[u8]) -> Result<Text, Refused>
-    requires { length bytes.now ≤ 2 ^ 24 }
+///
+/// The work on the items of the module is done by 1 to 64 workers, in contiguous pieces, each of which passes the gate first.
+/// The answer is the same for every number of them.
+pub fn module_out<R: AllocGlobal + Threads + Sync, G: Gate>(
+    rt: &R,
+    job: &Job,
+    workers: u32,
+    strict: bool,
+    bytes: &[u8],
+    gate: &G,
+) -> Result<Text, Refused>
+    requires limit { length bytes.now ≤ 2 ^ 24 }
+    requires workers { (1 ≤ workers) × (workers ≤ 64) }
     ensures text { IfOk result (λ text. IsModuleText job.now strict bytes.now text.out.items text.notes.items) }
     ensures refined { OnOk result ((pieces : List Piece) → IsModule strict bytes.now pieces → All (IsRefined job.now) pieces) }
     ensures refused { IfErr result (λ e. (e ≡ Memory) ⊎ IsRefusal strict bytes.now e) }
@@ -79,5 +112,5 @@ pub fn module_out(alloc: Global, job: &Job, strict: bool, bytes: &[u8]) -> Resul
 {
     one_list_of_pieces();
     one_refusal();
-    worked_out(alloc, job, strict, bytes)
+    worked_out(rt, job, workers, strict, bytes, gate)
 }

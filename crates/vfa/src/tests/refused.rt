@@ -77,8 +77,7 @@ fn reads_prefixes_of_a_module(rt: HostRuntime) -> Result<(), Fail> {
 
 #[test]
 fn shows_the_usage(rt: HostRuntime) -> Result<(), Fail> {
-    let usage =
-        b"usage: vfa opt|facts|ask|self [--workers N] [--strict] [--function F --value V --block B [--from P]] [--seed N]\n";
+    let usage = USAGE_LINE;
     let want = End {
         status: Status::Usage,
         out: b"",

@@ -3,7 +3,7 @@ use super::printed::CLANG;
 use super::*;
 
 /// Runs the words over the input, which is refused with this message.
-fn check_strict<R: AllocGlobal + Abort>(
+fn check_strict<R: AllocGlobal + Abort + Threads + Sync>(
     rt: &R,
     words: &[&str],
     input: &[u8],
@@ -93,7 +93,7 @@ fn shows_the_usage_for_other_words(rt: HostRuntime) -> Result<(), Fail> {
     let want = End {
         status: Status::Usage,
         out: b"",
-        err: b"usage: vfa opt|facts|ask|self [--workers N] [--strict] [--function F --value V --block B [--from P]] [--seed N]\n",
+        err: USAGE_LINE,
     };
     let cases: [&[&str]; 9] = [
         &[],

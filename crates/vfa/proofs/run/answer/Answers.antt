@@ -18,5 +18,5 @@ stop_at command input refused (Stop.Refused message) limit (inr holds) is =
 stop_at command input refused Stop.Memory limit why is = tt
 
 pub returns-in-Err-clause-stop : goal.returns-in-Err-clause-stop
-returns-in-Err-clause-stop c =
-    stop_at c.args.command.now c.args.input.now c.in-Err.refused c.stop_of.result c.requires c.in-Err.ensures.refused c.stop_of.ensures
+returns-in-Err-clause-stop g c =
+    stop_at c.args.command.now c.args.input.now c.in-Err.refused c.stop_of.result c.requires.limit c.in-Err.ensures.refused c.stop_of.ensures

@@ -3,25 +3,25 @@ use Rattle.vfa_opt.proofs.WorkLists.{within_all, text_in, refined_in, refused_in
 use Rattle.vfa_opt.proofs.modules.worked_out.Goals as goal
 
 pub returns-in_err-items-clause-refused : goal.returns-in_err-items-clause-refused
-returns-in_err-items-clause-refused c = let refused = c.in_err-items.ensures.refused c.args.strict in search rules
+returns-in_err-items-clause-refused g c = let refused = c.in_err-items.ensures.refused c.args.strict in search rules
 
 pub returns-clause-text : goal.returns-clause-text
-returns-clause-text c =
+returns-clause-text g c =
     text_in c.args.job.now c.args.strict c.args.bytes.now c.deref.result.now c.in_ok-all.all.items
     (c.in_ok-items.ensures.items ∙ ap (λ x. Ok x) (sym c.deref.ensures.value)) c.in_ok-all.ensures c.joined.result
     c.joined.ensures.out c.joined.ensures.notes c.joined.ensures.distinct c.joined.ensures.whole
 
 pub returns-clause-refined : goal.returns-clause-refined
-returns-clause-refined c =
+returns-clause-refined g c =
     refined_in c.args.job.now c.args.strict c.args.bytes.now c.deref.result.now c.in_ok-all.all.items
     (c.in_ok-items.ensures.items ∙ ap (λ x. Ok x) (sym c.deref.ensures.value)) c.in_ok-all.ensures c.joined.result
     c.joined.ensures.distinct c.joined.ensures.whole
 
 pub returns-clause-refused : goal.returns-clause-refused
-returns-clause-refused c =
+returns-clause-refused g c =
     refused_in c.args.job.now c.args.strict c.args.bytes.now c.deref.result.now c.in_ok-all.all.items
     (c.in_ok-items.ensures.items ∙ ap (λ x. Ok x) (sym c.deref.ensures.value)) c.in_ok-all.ensures c.joined.result
     c.joined.ensures.refused
 
 pub joined-requires : goal.joined-requires
-joined-requires c = within_all c.args.job.now c.args.bytes.now c.deref.result.now c.in_ok-all.all.items c.in_ok-all.ensures
+joined-requires g c = within_all c.args.job.now c.args.bytes.now c.deref.result.now c.in_ok-all.all.items c.in_ok-all.ensures

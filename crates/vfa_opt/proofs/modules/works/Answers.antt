@@ -1,10 +1,7 @@
-use Rattle.vfa_opt.proofs.WorkLists.{worked_more, worked_all}
+use Rattle.std.proofs.lemmas.List.Elements.{All-from_recursion}
+use Rattle.vfa_opt.proofs.WorkLists.{may_run}
 use Rattle.vfa_opt.proofs.modules.works.Goals as goal
 
-pub items-preserved : goal.items-preserved
-items-preserved c =
-    worked_more c.args.job.now c.args.bytes.now c.args.items.now c.items.item-index _ c.items.all.items _ c.in_ok-worked.worked c.items-test.true
-    c.items.invariant c.in_ok-worked.ensures c.in_ok-push.ensures.items
-
-pub returns : goal.returns
-returns c = worked_all c.args.job.now c.args.bytes.now c.args.items.now c.items.item-index c.items.all.items c.items-test.false c.items.invariant
+pub each-requires-clause-inputs : goal.each-requires-clause-inputs
+each-requires-clause-inputs g c = λ lifetimes lives.
+    All-from_recursion _ c.args.items.now (may_run c.args.bytes.now c.args.items.now c.requires.limit c.requires.places)
