@@ -7,7 +7,9 @@ pub mod EndingStill
 pub mod Facts
 pub mod Found
 pub mod Going
+pub mod HeadsKept
 pub mod Listed
+pub mod LiteralsFit
 pub mod LoopFree
 pub mod Marking
 pub mod Nexts
@@ -15,6 +17,7 @@ pub mod Over
 pub mod PassEquations
 pub mod Passing
 pub mod Readied
+pub mod Rising
 pub mod RoundsEnd
 pub mod States
 pub mod Steps

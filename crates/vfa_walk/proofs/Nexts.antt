@@ -79,7 +79,7 @@ module _ {V : Type 0} where
   entry_last (x ∷ list) e zero same = absurd (omega arith)
   entry_last (x ∷ list) e (suc k) same = entry_last list e k (omega arith)
 
-  entry_at : (list : List (Option (Stored V))) (k : ℕ) → k < length list → option_map known (entry_in list k) ≡ option_map known (get_or list k None)
+  pub entry_at : (list : List (Option (Stored V))) (k : ℕ) → k < length list → option_map known (entry_in list k) ≡ option_map known (get_or list k None)
   entry_at [] k inside = absurd (omega arith)
   entry_at (x ∷ list) zero inside = refl
   entry_at (x ∷ list) (suc k) inside = entry_at list k (omega arith)

@@ -1,7 +1,6 @@
 -- The landmarks of a width are landmarks as a domain asks for them.
-use Rattle.std.proofs.Common.{◌≡◌, ◌<◌, ◌≤◌, ◌-◌, ◌+◌, ◌^◌, ℕ, zero, suc, Bool, true, false, nat_eq, List, [], ◌∷◌, All, Contains, length, refl, sym, subst, arith, eq-eqb, inl, inr}
-use Rattle.std.proofs.lemmas.Bool.Decides.{eqb_tells}
-use Rattle.std.specs.List.{range_with_len, filter}
+use Rattle.std.proofs.Common.{◌≡◌, ◌<◌, ◌-◌, ◌^◌, ℕ, true, nat_eq, List, [], ◌∷◌, length, refl, arith, eq-eqb}
+use Rattle.std.specs.List.{range_with_len}
 use Rattle.std.specs.List.Sorted.{IsNonDecreasing}
 use Rattle.std.proofs.lemmas.List.Elements.{All-filter}
 use Rattle.std.proofs.lemmas.List.FromFn.{length-range_with_len, get_or-range_with_len}
@@ -13,33 +12,7 @@ use Rattle.vfa_word.specs.Numbers.{IsWidth}
 use Rattle.vfa_cfg.proofs.Members.{or_left, or_right}
 use Rattle.vfa_values.specs.Conditions.{AreLandmarks}
 use Rattle.vfa_walk.specs.Landmarks.{ends_of, literals, is_landmark, landmarks}
-
-contained_first : (x : ℕ) (xs : List ℕ) → Contains (x ∷ xs) x
-contained_first x xs = (0, omega arith, refl)
-
-contained_rest : (x y : ℕ) (xs : List ℕ) → Contains xs x → Contains (y ∷ xs) x
-contained_rest x y xs c = let less = c.1 in (suc c.0, omega arith, c.2)
-
-passes_first : (p : ℕ → Bool) (x : ℕ) (xs : List ℕ) → p x ≡ true → Contains (filter p (x ∷ xs)) x
-passes_first p x xs passes = rw passes (contained_first x (filter p xs))
-
-passes_rest : (p : ℕ → Bool) (x y : ℕ) (xs : List ℕ) → Contains (filter p xs) x → Contains (filter p (y ∷ xs)) x
-passes_rest p x y xs c = of (p y) refl
-  where
-    of : (b : Bool) → p y ≡ b → Contains (filter p (y ∷ xs)) x
-    of true e = rw e (contained_rest x y (filter p xs) c)
-    of false e = rw e c
-
-in_range : (p : ℕ → Bool) (x a n : ℕ) → a ≤ x → x < a + n → p x ≡ true → Contains (filter p (range_with_len a n)) x
-in_range p x a zero low high passes = absurd (omega arith)
-in_range p x a (suc n) low high passes = elim (eqb_tells a x) [
-  | inl same ↦
-      let e : a ≡ x = same.1 in
-      subst (λ k. Contains (filter p (k ∷ range_with_len (a + 1) n)) x) (sym e) (passes_first p x (range_with_len (a + 1) n) passes)
-  | inr apart ↦
-      let other : a ≡ x → ⊥ = apart.1 in
-      passes_rest p x a (range_with_len (a + 1) n) (in_range p x (a + 1) n (omega (arith, other)) (omega arith) passes)
-]
+use Rattle.vfa_walk.proofs.Rising.{in_range, range_below}
 
 range_ascends : (n : ℕ) → IsNonDecreasing (range_with_len 0 n)
 range_ascends n i j d le less =
@@ -47,12 +20,6 @@ range_ascends n i j d le less =
     let first = get_or-range_with_len 0 n i d (omega arith) in
     let second = get_or-range_with_len 0 n j d (omega arith) in
     omega (arith, first, second)
-
-range_below : (n : ℕ) → All (λ m. m < n) (range_with_len 0 n)
-range_below n k d less =
-    let count : length (range_with_len 0 n) ≡ n = length-range_with_len 0 n in
-    let is = get_or-range_with_len 0 n k d (omega arith) in
-    omega (arith, is)
 
 is_end : (f : Function) (w x : ℕ) → is_in x (ends_of w) ≡ true → is_landmark f w x ≡ true
 is_end f w x here = or_left (is_in x (ends_of w)) (is_in x (literals f w)) here

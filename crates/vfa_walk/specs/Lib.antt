@@ -1,6 +1,7 @@
 pub mod Analysis
 pub mod Cursors
 pub mod Flow
+pub mod Heads
 pub mod Joining
 pub mod Kept
 pub mod Landmarks

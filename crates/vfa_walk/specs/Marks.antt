@@ -1,4 +1,3 @@
--- helper: in no public contract
 -- The landmarks of all widths.
 use Rattle.std.specs.Prelude.{◌≡◌, ℕ, List, [], get_or}
 use Rattle.vfa_ir.specs.declared.functions.Function.{Function}

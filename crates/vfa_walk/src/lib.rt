@@ -4,11 +4,13 @@
 mod blocks;
 mod cursor;
 mod definitions;
+mod heads;
 mod joining;
 mod landmarks;
 pub mod laws;
 mod leaving;
 mod loop_free;
+mod marks;
 mod operands;
 mod pairs;
 mod passes;
@@ -20,7 +22,9 @@ pub mod truth;
 mod widening;
 
 pub use cursor::{Cursor, Moved, cursor_has_the_state_at_its_place};
+pub use heads::{Widened, widen_heads, widen_heads_by};
 pub use loop_free::table_without_loops;
+pub use marks::Marks;
 pub use pairs::{edge_state, pair_state};
 pub use passes::{Passed, pass};
 pub use tables::Table;

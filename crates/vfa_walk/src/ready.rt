@@ -27,3 +27,12 @@ pub(crate) fn ready(f: &Checked) -> &Function
     fit_is_printable();
     f.function()
 }
+
+/// The function that was checked; some text reads as it.
+pub(crate) fn printable(f: &Checked) -> &Function
+    ensures same { result.now ≡ f.now }
+    ensures printable { IsPrintable result.now }
+{
+    fit_is_printable();
+    f.function()
+}

@@ -1,6 +1,6 @@
 //! Heads that are widened.
 
-ghost use Rattle.std.specs.Prelude.{◌≡◌, ◌≤◌, ◌<◌, ◌^◌, ℕ, [], get_or, length, IfOk};
+ghost use Rattle.std.specs.Prelude.{◌≡◌, ◌≤◌, ◌<◌, ◌^◌, ℕ, length, IfOk};
 ghost use Rattle.std.specs.Option.{ForSome, option_map};
 ghost use Rattle.vfa_values.specs.Conditions.{IsOf, width_of};
 ghost use Rattle.vfa_cond.specs.Conditions.{AreFacts, name_type};
@@ -11,39 +11,13 @@ ghost use Rattle.vfa_walk.specs.Marks.{AreMarksOf};
 ghost use Rattle.vfa_walk.specs.Passes.{merged};
 
 use crate::joining::take_over;
+use crate::marks::Marks;
 use crate::pairs::same;
 use crate::passes::{copied, type_of};
 use std::alloc::{AllocError, Global};
-use std::marker::Model;
 use vfa_cond::State;
 use vfa_ir::{Function, Ty, ValueId};
 use vfa_values::Values;
-
-/// The landmarks of each width, by the width.
-#[derive(Drop)]
-pub(crate) struct Marks {
-    of_width: Vec<Vec<u128>>,
-}
-
-impl Model for Marks {
-    ghost use Rattle.std.specs.Prelude.{List, map, ℕ};
-
-    ghost Value = { List (List ℕ) };
-
-    ghost view = { λ m. map (λ v. v.items) m.of_width.items };
-}
-
-impl Marks {
-    /// The landmarks of a width.
-    fn at(&self, width: u32) -> &[u128]
-        ensures { result.now ≡ get_or self.now width [] }
-    {
-        match self.of_width.get(width as usize) {
-            Some(marks) => marks.as_slice(),
-            None => &[],
-        }
-    }
-}
 
 fn width_of(of_type: Ty) -> u32
     ensures { result ≡ width_of of_type }
@@ -122,7 +96,7 @@ pub(crate) fn widen<V: Values>(
 }
 
 /// The old state of a head widened by the new one, of which each may be none: what is not there gives way.
-fn widened_entry<V: Values>(
+pub(crate) fn widened_entry<V: Values>(
     alloc: Global,
     f: &Function,
     old: &Option<State<V>>,
