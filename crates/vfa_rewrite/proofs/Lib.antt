@@ -3,6 +3,8 @@ mod Becoming
 mod ChangeForms
 mod FactChanges
 mod FactDecisions
+mod FindingsFit
+mod FreshNames
 mod Instructions
 mod KeptNames
 mod Left
@@ -12,6 +14,7 @@ mod Lockstep
 mod MarkedBlocks
 mod MarkedLines
 mod Narrowing
+mod OneFunction
 mod OneMarks
 mod OneOperand
 mod Operations

@@ -10,10 +10,11 @@ ghost use Rattle.vfa_walk.specs.Tables.{IsTableOf, IsTrueTable};
 ghost use Rattle.vfa_walk.specs.TruthLaws.{HasTypedFacts};
 ghost use Rattle.vfa_xfer.specs.AnyFacts.{HoldsOf, IsAnyFact, fact_type};
 ghost use Rattle.vfa_xfer.specs.Transfers.{fact_answers};
-ghost use Rattle.vfa_rewrite.specs.Alike.{AreAlike};
+ghost use Rattle.vfa_rewrite.specs.Alike.{LeaveTheSame};
 ghost use Rattle.vfa_rewrite.specs.ByFacts.{FactTable, findings_of};
-ghost use Rattle.vfa_rewrite.specs.Findings.{AreTrue, Findings};
+ghost use Rattle.vfa_rewrite.specs.Findings.{AreFitting, AreTrue, Findings};
 ghost use Rattle.vfa_rewrite.specs.Marks.{AreMarks};
+ghost use Rattle.vfa_rewrite.specs.Rewriting.{IsRewritten};
 ghost use Rattle.vfa_rewrite.specs.Rewritten.{Marks, rewritten};
 ghost use Rattle.vfa_rewrite.specs.Sound.{AreSound};
 
@@ -42,11 +43,23 @@ pub fn rewriting_by_facts_refines()
         IsTrueTable HoldsOf f t → AreMarks f (findings_of f t) m → Refines f (rewritten f m) }
 {}
 
-/// Two marks of the same true findings leave the same, but for the names that narrowing adds: the same blocks, edges, names and
-/// lines, with the same operands.
+/// What a table of facts and the rules on single instructions find out of a checked function fits, whether or not the table is
+/// true.
+pub fn findings_fit()
+    ensures { (f : Function) (t : FactTable) → IsChecked f → IsPrintable f → HasTypedFacts fact_type IsAnyFact f t →
+        AreFitting f (findings_of f t) }
+{}
+
+/// Two marks of the same fitting findings leave the same blocks and the same function.
 pub fn marks_are_one()
-    ensures { (f : Function) (found : Findings) (m m' : Marks) → IsPrintable f → AreTrue f found → AreMarks f found m →
-        AreMarks f found m' → AreAlike f found m m' }
+    ensures { (f : Function) (found : Findings) (m m' : Marks) → IsPrintable f → AreFitting f found → AreMarks f found m →
+        AreMarks f found m' → LeaveTheSame f m m' }
+{}
+
+/// Rewriting a checked function by a table of facts gives one function.
+pub fn one_rewritten()
+    ensures { (f : Function) (t : FactTable) (g g' : Function) → IsChecked f → IsPrintable f →
+        HasTypedFacts fact_type IsAnyFact f t → IsRewritten f t g → IsRewritten f t g' → g ≡ g' }
 {}
 
 /// So does rewriting by the table of the function, which is true.
