@@ -16,6 +16,7 @@ use Rattle.vfa_xfer.specs.AnyFacts.{IsAnyFact, fact_type}
 use Rattle.vfa_xfer.specs.Transfers.{fact_answers}
 use Rattle.vfa_rewrite.specs.ByFacts.{FactState, FactTable, fact_state, edge_state, findings_of}
 use Rattle.vfa_rewrite.specs.Findings.{AreFitting}
+use Rattle.vfa_rewrite.proofs.ChangePrints.{changes_print}
 use Rattle.vfa_rewrite.proofs.FactChanges.{changes_fit}
 use Rattle.vfa_rewrite.proofs.FactDecisions.{decisions_of_type, calls_are_kept}
 
@@ -48,6 +49,7 @@ module _ (f : Function) where
   are_fitting t checked printable facts = record {
     of_type = decisions_of_type f t checked printable facts;
     change = changes_fit f t checked printable facts;
+    prints = changes_print f printable checked.formed.typed t;
     call = calls_are_kept f t checked printable facts;
     met_before = λ b i below h. met_before t b i h;
     left_behind = λ b k h. behind_some (fact_state f t (At b (line_count f b))) (slice_get (edges_out f b) k) h;

@@ -109,7 +109,7 @@ call_has_effect (Op.Part w pair index) u e = absurd (cc)
 call_has_effect (Op.Assume c) u e = absurd (cc)
 call_has_effect (Op.Call w call) u e = tt
 
-assume_has_no_result : (m : Marks) (op : Op) (result : Option ValueId) → IsAssume op → HasItsResult op result → ResultIsKept m result → ⊥
+pub assume_has_no_result : (m : Marks) (op : Op) (result : Option ValueId) → IsAssume op → HasItsResult op result → ResultIsKept m result → ⊥
 assume_has_no_result m (Op.Assume c) None is has kept = kept
 assume_has_no_result m (Op.Assume c) (Some v) is has kept = has
 assume_has_no_result m (Op.Bin bin flags w a b) result is has kept = is
@@ -124,12 +124,12 @@ assume_has_no_result m (Op.Part w pair index) result is has kept = is
 assume_has_no_result m (Op.Call w call) result is has kept = is
 
 -- a result that is kept is of a name
-record KeptResult (m : Marks) (result : Option ValueId) : Type 0 where
-  name : ValueId
-  is : result ≡ Some name
-  kept : m.keeps name.0 ≡ true
+pub record KeptResult (m : Marks) (result : Option ValueId) : Type 0 where
+  pub name : ValueId
+  pub is : result ≡ Some name
+  pub kept : m.keeps name.0 ≡ true
 
-kept_result : (m : Marks) (result : Option ValueId) → ResultIsKept m result → KeptResult m result
+pub kept_result : (m : Marks) (result : Option ValueId) → ResultIsKept m result → KeptResult m result
 kept_result m None h = absurd h
 kept_result m (Some name) h = record { name = name; is = refl; kept = h }
 

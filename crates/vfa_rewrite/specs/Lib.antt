@@ -4,4 +4,5 @@ pub mod Findings
 pub mod Marks
 pub mod Rewriting
 pub mod Rewritten
+pub mod Sizes
 pub mod Sound
