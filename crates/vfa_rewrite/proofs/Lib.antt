@@ -1,20 +1,36 @@
-pub mod Agreement
 mod Becoming
+mod BlocksLeft
 mod ChangeForms
+mod ChangePrints
+mod CheckedLeft
+mod DefinitionsLeft
+mod EdgesLeft
 mod FactChanges
 mod FactDecisions
+mod FindingsFit
+mod FreshNames
 mod Instructions
+mod KeptLeft
 mod KeptNames
 mod Left
+mod LeftLines
+mod LeftParts
 mod Lines
 mod LiveOperands
 mod Lockstep
 mod MarkedBlocks
 mod MarkedLines
 mod Narrowing
+mod OneFunction
 mod OneMarks
 mod OneOperand
 mod Operations
 mod Phis
+mod PhisLeft
+mod PutOperands
 mod Ranges
+mod Sublists
+mod TargetsLeft
 mod Terminators
+mod TermsLeft
+pub mod Agreement

@@ -39,7 +39,7 @@ all_lines (i ∷ insts) (suc n) x t = in_more (id_of i) x (inst_ids (take n inst
 abbrev phi_ids : Block → List ℕ
 phi_ids block = map (λ (p : Phi). p.result.0) block.phis
 
-before_more : (f : Function) (b n k x : ℕ) → n ≤ k → is_in x (results_before f b n) ≡ true → is_in x (results_before f b k) ≡ true
+pub before_more : (f : Function) (b n k x : ℕ) → n ≤ k → is_in x (results_before f b n) ≡ true → is_in x (results_before f b k) ≡ true
 before_more f b n k x l = by (slice_get f.blocks b)
   where
     by : (o : Option Block) → is_in x (elim o [ None ↦ [] | Some block ↦ phi_ids block ++ inst_ids (take n block.insts) ]) ≡ true →
@@ -50,7 +50,7 @@ before_more f b n k x l = by (slice_get f.blocks b)
       | inr r ↦ in_right x (phi_ids block) (inst_ids (take k block.insts)) (more_lines block.insts n k x l r)
     ]
 
-before_end : (f : Function) (b n x : ℕ) → is_in x (results_before f b n) ≡ true → is_in x (results_in f b) ≡ true
+pub before_end : (f : Function) (b n x : ℕ) → is_in x (results_before f b n) ≡ true → is_in x (results_in f b) ≡ true
 before_end f b n x = by (slice_get f.blocks b)
   where
     by : (o : Option Block) → is_in x (elim o [ None ↦ [] | Some block ↦ phi_ids block ++ inst_ids (take n block.insts) ]) ≡ true →

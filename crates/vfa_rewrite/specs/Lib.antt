@@ -2,5 +2,7 @@ pub mod Alike
 pub mod ByFacts
 pub mod Findings
 pub mod Marks
+pub mod Rewriting
 pub mod Rewritten
+pub mod Sizes
 pub mod Sound
