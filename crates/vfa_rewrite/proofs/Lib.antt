@@ -1,5 +1,6 @@
 pub mod Agreement
 mod Becoming
+mod Chains
 mod ChangeForms
 mod FactChanges
 mod FactDecisions

@@ -5,6 +5,6 @@
 mod laws;
 
 pub use laws::{
-    findings_are_true, findings_fit, marks_are_one, marks_are_sound, one_rewritten,
+    chains_end, findings_are_true, findings_fit, marks_are_one, marks_are_sound, one_rewritten,
     rewriting_by_facts_refines, rewriting_by_the_table_refines, rewriting_refines,
 };
