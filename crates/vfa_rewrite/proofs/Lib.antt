@@ -1,5 +1,6 @@
 mod Becoming
 mod BlocksLeft
+mod Chains
 mod ChangeForms
 mod ChangePrints
 mod CheckedLeft

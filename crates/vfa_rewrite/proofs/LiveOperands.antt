@@ -62,7 +62,7 @@ before_end f b n x = by (slice_get f.blocks b)
     ]
 
 -- a name that is defined over some blocks is defined over more of them
-passed_more : (f : Function) (c : ℕ) (passed : List ℕ) (x : ℕ) → defined_over f passed x ≡ true → defined_over f (c ∷ passed) x ≡ true
+pub passed_more : (f : Function) (c : ℕ) (passed : List ℕ) (x : ℕ) → defined_over f passed x ≡ true → defined_over f (c ∷ passed) x ≡ true
 passed_more f c passed x t =
     let here = is_in x (results_in f c) in
     let earlier = list_any (λ d. is_in x (results_in f d)) passed in
@@ -71,7 +71,7 @@ passed_more f c passed x t =
       | inr r ↦ or_right (is_parameter f x) (here || earlier) (or_right here earlier r)
     ]
 
-passed_here : (f : Function) (c : ℕ) (passed : List ℕ) (x : ℕ) → is_in x (results_in f c) ≡ true → defined_over f (c ∷ passed) x ≡ true
+pub passed_here : (f : Function) (c : ℕ) (passed : List ℕ) (x : ℕ) → is_in x (results_in f c) ≡ true → defined_over f (c ∷ passed) x ≡ true
 passed_here f c passed x t =
     let earlier = list_any (λ d. is_in x (results_in f d)) passed in
     or_right (is_parameter f x) (is_in x (results_in f c) || earlier) (or_left (is_in x (results_in f c)) earlier t)

@@ -1,5 +1,6 @@
 pub mod Alike
 pub mod ByFacts
+pub mod Chains
 pub mod Findings
 pub mod Marks
 pub mod Rewriting

@@ -2,9 +2,12 @@
 
 ghost use Rattle.std.specs.Prelude.{◌≤◌, ◌^◌, length};
 ghost use Rattle.vfa_ir.specs.declared.functions.Function.{Function};
+ghost use Rattle.vfa_ir.specs.declared.operations.Operand.{Operand};
+ghost use Rattle.vfa_ir.specs.declared.operations.Ty.{Ty};
 ghost use Rattle.vfa_ir.specs.Defined.{Defined};
 ghost use Rattle.vfa_ir.specs.Printable.{IsPrintable};
 ghost use Rattle.vfa_ir.specs.Typed.{Typed};
+ghost use Rattle.vfa_mean.specs.Moments.{Place};
 ghost use Rattle.vfa_mean.specs.Refines.{Refines};
 ghost use Rattle.vfa_check.specs.Checked.{IsChecked};
 ghost use Rattle.vfa_walk.specs.Tables.{IsTableOf, IsTrueTable};
@@ -13,8 +16,9 @@ ghost use Rattle.vfa_xfer.specs.AnyFacts.{HoldsOf, IsAnyFact, fact_type};
 ghost use Rattle.vfa_xfer.specs.Transfers.{fact_answers};
 ghost use Rattle.vfa_rewrite.specs.Alike.{LeaveTheSame};
 ghost use Rattle.vfa_rewrite.specs.ByFacts.{FactTable, findings_of};
-ghost use Rattle.vfa_rewrite.specs.Findings.{AreFitting, AreTrue, Findings};
-ghost use Rattle.vfa_rewrite.specs.Marks.{AreMarks};
+ghost use Rattle.vfa_rewrite.specs.Chains.{IsWalkedTo, becoming};
+ghost use Rattle.vfa_rewrite.specs.Findings.{AreFitting, AreTrue, Findings, IsUsable};
+ghost use Rattle.vfa_rewrite.specs.Marks.{AreMarks, Becomes};
 ghost use Rattle.vfa_rewrite.specs.Rewriting.{IsRewritten};
 ghost use Rattle.vfa_rewrite.specs.Rewritten.{Marks, rewritten};
 ghost use Rattle.vfa_rewrite.specs.Sizes.{IsLittleLarger};
@@ -52,6 +56,12 @@ pub fn rewriting_by_facts_refines()
         IsTrueTable HoldsOf f t → AreMarks f (findings_of f t) m → Refines f (rewritten f m) }
 {}
 
+/// So does rewriting by the table of the function, which is true.
+pub fn rewriting_by_the_table_refines()
+    ensures { (f : Function) (t : FactTable) (m : Marks) → IsChecked f → IsPrintable f → IsTableOf fact_answers f t →
+        AreMarks f (findings_of f t) m → Refines f (rewritten f m) }
+{}
+
 /// What a table of facts and the rules on single instructions find out of a checked function fits, whether or not the table is
 /// true.
 pub fn findings_fit()
@@ -71,10 +81,12 @@ pub fn one_rewritten()
         HasTypedFacts fact_type IsAnyFact f t → IsRewritten f t g → IsRewritten f t g' → g ≡ g' }
 {}
 
-/// So does rewriting by the table of the function, which is true.
-pub fn rewriting_by_the_table_refines()
-    ensures { (f : Function) (t : FactTable) (m : Marks) → IsChecked f → IsPrintable f → IsTableOf fact_answers f t →
-        AreMarks f (findings_of f t) m → Refines f (rewritten f m) }
+/// An operand becomes what is found by following the operands that take its place, at each place that some walk comes to and
+/// where it may be used: as many steps as the function has names are enough.
+pub fn chains_end()
+    ensures { (f : Function) (found : Findings) (place : Place) (ty : Ty) (a : Operand) → IsPrintable f → Defined f →
+        AreFitting f found → IsWalkedTo f place → IsUsable f place ty a →
+        Becomes f found place ty a (becoming f found place ty (length f.values) a) }
 {}
 
 /// What the marks of fitting findings leave of a checked function, numbered in text order, is such as the check accepts: some
