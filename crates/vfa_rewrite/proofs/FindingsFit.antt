@@ -26,12 +26,13 @@ module _ (f : Function) where
       is_some (after_insts fact_answers f (take i insts) s) ≡ true
   shorter insts zero s h = refl
   shorter [] (suc i) s h = refl
-  shorter (inst ∷ insts) (suc i) s h = by (after_inst fact_answers f inst s) h
+  shorter (inst ∷ insts) (suc i) s h = by (after_inst fact_answers f inst s) h (shorter insts i)
     where
       by : (o : Option FactState) → is_some (and_then o (after_insts fact_answers f (take (suc i) insts))) ≡ true →
+          ((next : FactState) → is_some (after_insts fact_answers f (take (suc i) insts) next) ≡ true → is_some (after_insts fact_answers f (take i insts) next) ≡ true) →
           is_some (and_then o (after_insts fact_answers f (take i insts))) ≡ true
-      by None h = h
-      by (Some next) h = shorter insts i next h
+      by None h again = h
+      by (Some next) h again = again next h
 
   met_before : (t : FactTable) (b i : ℕ) → (findings_of f t).met b (suc i) ≡ true → (findings_of f t).met b i ≡ true
   met_before t b i h = by (t b) h

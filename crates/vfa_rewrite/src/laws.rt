@@ -1,6 +1,6 @@
 //! Laws of rewriting.
 
-ghost use Rattle.std.specs.Prelude.{◌≤◌, ◌^◌, length};
+ghost use Rattle.std.specs.Prelude.{◌≡◌, ◌≤◌, ◌^◌, length};
 ghost use Rattle.vfa_ir.specs.declared.functions.Function.{Function};
 ghost use Rattle.vfa_ir.specs.declared.operations.Operand.{Operand};
 ghost use Rattle.vfa_ir.specs.declared.operations.Ty.{Ty};
