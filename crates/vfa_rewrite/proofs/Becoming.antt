@@ -54,10 +54,6 @@ names_b f (Op.Part _ pair _) x h = absurd (cc)
 names_b f (Op.Assume c) x h = absurd (cc)
 names_b f (Op.Call _ _) x h = absurd (cc)
 
-change_operand : Change → Operand
-change_operand (Change.Uses u) = u
-change_operand change = Operand.Poison
-
 module _ (f : Function) (printable : IsPrintable f) (defined : Defined f) (found : Findings) (holds : AreTrue f found) where
   -- ---- a replaced name
 

@@ -1,28 +1,20 @@
 -- The blocks that are left: what they define and call, and that they are typed and may be printed.
-use Rattle.std.proofs.Common.{◌≡◌, ◌<◌, ◌≤◌, ℕ, zero, suc, ◌+◌, ◌*◌, ◌++◌, Bool, true, false, All, Option, Some, None, List, [], ◌∷◌, map, flat_map, filter_map, length, slice_get, refl, sym, ap, ◌∙◌, subst, inl, inr, arith}
-use Rattle.std.proofs.lemmas.List.Elements.{All-from_recursion, recursion_from_All}
-use Rattle.std.proofs.lemmas.Option.{same_Some}
+use Rattle.std.proofs.Common.{◌≡◌, ℕ, suc, ◌+◌, ◌++◌, Bool, true, false, Option, Some, None, List, [], ◌∷◌, map, flat_map, filter_map, length, slice_get, refl, sym, ap, ◌∙◌, subst, inl, inr, arith}
 use Rattle.std.specs.List.{AllByRecursion, cons_option}
-use Rattle.vfa_ir.specs.declared.operations.BlockId.{BlockId}
-use Rattle.vfa_ir.specs.declared.operations.Op.{Op}
-use Rattle.vfa_ir.specs.declared.operations.Operand.{Operand}
-use Rattle.vfa_ir.specs.declared.operations.Ty.{Ty}
 use Rattle.vfa_ir.specs.declared.operations.ValueId.{ValueId}
 use Rattle.vfa_ir.specs.declared.functions.Block.{Block}
 use Rattle.vfa_ir.specs.declared.functions.Function.{Function}
 use Rattle.vfa_ir.specs.declared.functions.Inst.{Inst}
 use Rattle.vfa_ir.specs.declared.functions.Phi.{Phi}
-use Rattle.vfa_ir.specs.declared.functions.Term.{Term}
-use Rattle.vfa_ir.specs.Printable.{inst_ids, inst_types, block_ids, block_call_places, call_place, op_type}
+use Rattle.vfa_ir.specs.Printable.{inst_ids, block_ids, block_call_places, call_place}
 use Rattle.vfa_ir.specs.Words.{is_in}
-use Rattle.vfa_mean.specs.Moments.{At, IsLine}
 use Rattle.vfa_mean.proofs.FreshOperands.Definitions.{in_cases, first_or_rest}
 use Rattle.vfa_rewrite.specs.Findings.{Findings}
 use Rattle.vfa_rewrite.specs.Marks.{IsLeftLine}
-use Rattle.vfa_rewrite.specs.Rewritten.{Marks, if_left, with_numbers, changed, if_stays, if_met, lines_left, phi_left, kept_phis, phis_if_met, phis_left, rewritten_block, emptied, if_block_left, block_left, rewritten}
+use Rattle.vfa_rewrite.specs.Rewritten.{Marks, if_left, changed, if_stays, if_met, lines_left, phi_left, kept_phis, phis_if_met, phis_left, rewritten_block}
 use Rattle.vfa_rewrite.proofs.LeftLines.{Known, form}
 use Rattle.vfa_rewrite.proofs.LeftParts.{with_fresh, result_with_fresh, places_in, IsGoodLine, lines_good, lines_ids, lines_places}
-use Rattle.vfa_rewrite.proofs.Sublists.{IsSublist, end, skip, keep, sublist_append, sublist_self, sublist_none, sublist_behind, sublist_in}
+use Rattle.vfa_rewrite.proofs.Sublists.{IsSublist, end, skip, keep, sublist_append, sublist_none, sublist_behind, sublist_in}
 
 -- ---- lists
 

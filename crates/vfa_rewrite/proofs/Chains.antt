@@ -1,11 +1,9 @@
 -- Chains of names that take one another's place end.
-use Rattle.std.proofs.Common.{◌≡◌, ◌<◌, ◌≤◌, ◌+◌, ℕ, zero, suc, nat_eq, ◌||◌, ◌&&◌, if◌then◌else◌, Bool, true, false, Option, Some, None, List, [], ◌∷◌, map, length, slice_get, refl, sym, ap, ◌∙◌, subst, inl, inr, ◌⊎◌, arith}
+use Rattle.std.proofs.Common.{◌≡◌, ◌<◌, ◌≤◌, ◌+◌, ℕ, zero, suc, nat_eq, ◌&&◌, if◌then◌else◌, Bool, true, false, Option, Some, None, List, [], ◌∷◌, map, length, slice_get, refl, sym, ap, ◌∙◌, subst, inl, inr, arith}
 use Rattle.std.proofs.lemmas.Bool.{cases_Bool, eqb-true, eq-eqb}
 use Rattle.std.proofs.lemmas.Option.{same_Some}
 use Rattle.std.specs.List.{list_any}
-use Rattle.std.specs.Option.{option_or}
 use Rattle.vfa_ir.specs.declared.operations.BlockId.{BlockId}
-use Rattle.vfa_ir.specs.declared.operations.Op.{Op}
 use Rattle.vfa_ir.specs.declared.operations.Operand.{Operand}
 use Rattle.vfa_ir.specs.declared.operations.Ty.{Ty}
 use Rattle.vfa_ir.specs.declared.operations.ValueId.{ValueId}
@@ -22,14 +20,15 @@ use Rattle.vfa_mean.proofs.FreshOperands.Definitions.{or_cases, or_left, or_righ
 use Rattle.vfa_mean.proofs.FreshOperands.Walking.{use_is_defined}
 use Rattle.vfa_rules.specs.declared.change.Change.{Change}
 use Rattle.vfa_rules.specs.Uses.{first_found, is_result}
-use Rattle.vfa_rewrite.specs.Chains.{other_by, other_in, itself, other_within, other_for, other, if_undecided, becoming, IsWalkedTo}
-use Rattle.vfa_rewrite.specs.Findings.{Decision, OneNumber, NoNumber, Undecided, Findings, IsTypedOperand, IsUsable, IsFitting, AreFitting}
-use Rattle.vfa_rewrite.specs.Marks.{IsReplaced, HasNoOther, Becomes, number, no_number, replaced, stays, Reached, first, next}
+use Rattle.vfa_rewrite.specs.Chains.{other_by, other_in, itself, other_within, other_for, if_undecided, becoming, IsWalkedTo}
+use Rattle.vfa_rewrite.specs.Findings.{Decision, OneNumber, NoNumber, Undecided, Findings, IsUsable, IsFitting, AreFitting}
+use Rattle.vfa_rewrite.specs.Marks.{IsReplaced, Becomes, number, no_number, replaced, stays, Reached, first, next}
 use Rattle.vfa_rewrite.specs.Rewritten.{with_numbers}
 use Rattle.vfa_rewrite.proofs.Becoming.{names_a, names_b}
+use Rattle.vfa_rewrite.proofs.FreshNames.{named_result}
 use Rattle.vfa_rewrite.proofs.Left.{made_at}
 use Rattle.vfa_rewrite.proofs.LiveOperands.{before_more, before_end, passed_more, passed_here}
-use Rattle.vfa_rewrite.proofs.Ranges.{defines_once, result_below, typed_value}
+use Rattle.vfa_rewrite.proofs.Ranges.{defines_once, typed_value}
 
 -- ---- the first that is found
 
@@ -51,27 +50,18 @@ none_is (Some y ∷ xs) h n u t = absurd (cc)
 record IsMadeOf {A B : Type 0} (make : ℕ → A → B) (xs : List A) (n k : ℕ) (y : B) : Type 0 where
   x : A
   there : slice_get xs n ≡ Some x
-  is : y ≡ make k x
+  is : make k x ≡ y
 
 made_of : {A B : Type 0} (make : ℕ → A → B) (i : ℕ) (xs : List A) (n k : ℕ) (y : B) → k ≡ i + n → slice_get (with_numbers make i xs) n ≡ Some y → IsMadeOf make xs n k y
 made_of make i [] n k y e h = absurd (cc)
 made_of make i (x ∷ xs) zero k y e h =
     let same : i ≡ k = omega (arith, e) in
-    record { x = x; there = refl; is = sym (same_Some (make i x) y h) ∙ ap (λ t. make t x) same }
+    record { x = x; there = refl; is = ap (λ t. make t x) (sym same) ∙ same_Some (make i x) y h }
 made_of make i (x ∷ xs) (suc n) k y e h =
     let r = made_of make (suc i) xs n k y (omega (arith, e)) h in
     record { x = r.x; there = r.there; is = r.is }
 
 -- ---- the operand that takes the place of a name
-
-record IsNamed (o : Option ValueId) (n : ℕ) : Type 0 where
-  name : ValueId
-  is : o ≡ Some name
-  same : name.0 ≡ n
-
-named : (o : Option ValueId) (n : ℕ) → is_result n o ≡ true → IsNamed o n
-named None n h = absurd (cc)
-named (Some name) n h = record { name = name; is = refl; same = eqb-true name.0 n h }
 
 uses_by : (c : Change) (u : Operand) → other_by c ≡ Some u → c ≡ Change.Uses u
 uses_by (Change.Uses v) u h = ap Change.Uses (same_Some v u h)
@@ -85,7 +75,7 @@ module _ (f : Function) (found : Findings) where
     where
       by : (s t : Bool) → is_result n inst.result ≡ s → found.met b i ≡ t → (if s && t then other_by (found.change b i inst) else None) ≡ Some u → IsReplaced f found n u
       by true true e g h =
-          let of = named inst.result n e in
+          let of = named_result inst.result n e in
           record {
             b = b;
             i = i;
@@ -105,9 +95,9 @@ module _ (f : Function) (found : Findings) where
   other_is n u h =
       let at_block = first_is (with_numbers (other_within found n) 0 f.blocks) u h in
       let of = made_of (other_within found n) 0 f.blocks at_block.n at_block.n (Some u) (omega arith) at_block.there in
-      let at_line = first_is (with_numbers (other_in found n at_block.n) 0 of.x.insts) u (sym of.is) in
+      let at_line = first_is (with_numbers (other_in found n at_block.n) 0 of.x.insts) u of.is in
       let by = made_of (other_in found n at_block.n) 0 of.x.insts at_line.n at_line.n (Some u) (omega arith) at_line.there in
-      line_replaces n at_block.n at_line.n of.x by.x u (record { there = of.there; stands = by.there }) (sym by.is)
+      line_replaces n at_block.n at_line.n of.x by.x u (record { there = of.there; stands = by.there }) by.is
 
   none_replaces : (n : ℕ) → other_for f found n ≡ None → (u : Operand) → IsReplaced f found n u → ⊥
   none_replaces n h u r = by (other_within found n r.b r.block) refl

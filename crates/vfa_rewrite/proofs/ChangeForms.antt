@@ -31,7 +31,7 @@ use Rattle.vfa_rules.specs.Conditions.{is_only, stays_in_range, is_natural}
 use Rattle.vfa_rules.specs.Facts.{number_cell, bit_cell}
 use Rattle.vfa_rules.specs.Order.{Known, Rule, PlainArithmetic, UnsignedForm, NarrowedDivision, GainedWords, FrozenAlready, AssumedAlready, KeptOperand, then_by, changed}
 use Rattle.vfa_rules.specs.Rules.{replaced, first_or_second, binary_gives_first, binary_gives, extreme_gives, plain, no_wrap, plain_if, range_of_overflow, extracted, unsigned_binary, unsigned_cast, division_widths, width_for, if_below, lesser_width, divides_unsigned, narrowed, narrow_width}
-use Rattle.vfa_rewrite.specs.Findings.{IsUsable, AreUsable, IsFitting, ChangeFits}
+use Rattle.vfa_rewrite.specs.Findings.{IsUsable, AreUsable, ChangeFits}
 
 -- ---- the lesser width
 

@@ -1,5 +1,5 @@
 -- What a table of facts and the rules make of an instruction may be printed: flags fit, and it has a result where it had one.
-use Rattle.std.proofs.Common.{◌≡◌, ℕ, ◌&&◌, Bool, true, false, nat_eq, if◌then◌else◌, Option, Some, None, List, [], ◌∷◌, is_some, slice_get, refl, sym, ap, ◌∙◌, subst}
+use Rattle.std.proofs.Common.{◌≡◌, ℕ, ◌&&◌, Bool, true, false, nat_eq, if◌then◌else◌, Option, Some, None, List, [], ◌∷◌, is_some, refl, sym, subst}
 use Rattle.std.specs.Prelude.{IfSome}
 use Rattle.std.specs.Option.{option_map}
 use Rattle.std.specs.List.{fold}
@@ -9,7 +9,6 @@ use Rattle.vfa_ir.specs.declared.operations.Fun2.{Fun2}
 use Rattle.vfa_ir.specs.declared.operations.Op.{Op}
 use Rattle.vfa_ir.specs.declared.operations.Operand.{Operand}
 use Rattle.vfa_ir.specs.declared.operations.ValueId.{ValueId}
-use Rattle.vfa_ir.specs.declared.functions.Block.{Block}
 use Rattle.vfa_ir.specs.declared.functions.Function.{Function}
 use Rattle.vfa_ir.specs.declared.functions.Inst.{Inst}
 use Rattle.vfa_ir.specs.Printable.{IsPrintable, HasItsResult, AreOperands, PrintableOp, PrintableInst, PrintableBlock}
@@ -18,7 +17,7 @@ use Rattle.vfa_word.specs.declared.arith.Arith.{Arith}
 use Rattle.vfa_wrap.specs.declared.reading.Reading.{Reading}
 use Rattle.vfa_dom.specs.Sets.{single_of}
 use Rattle.vfa_fact.specs.Cells.{in_cell}
-use Rattle.vfa_mean.specs.Moments.{At, IsLine, is_call}
+use Rattle.vfa_mean.specs.Moments.{At, is_call}
 use Rattle.vfa_mean.specs.Rows.{overflow_arith}
 use Rattle.vfa_walk.proofs.TruthTypes.{each_of, line_is_typed, IsTypedOp}
 use Rattle.vfa_rules.specs.declared.change.Change.{Change}

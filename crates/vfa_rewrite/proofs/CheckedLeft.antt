@@ -1,5 +1,5 @@
 -- What is kept of a rewritten function may be numbered, is typed, and may be printed; its phis fit, and it is little larger.
-use Rattle.std.proofs.Common.{◌≡◌, ◌<◌, ◌≤◌, ℕ, zero, suc, ◌+◌, ◌*◌, ◌++◌, ◌^◌, Bool, true, false, cond, nat_eq, All, Option, Some, None, List, [], ◌∷◌, map, flat_map, filter_map, length, slice_get, IsSomeAnd, refl, sym, ap, ◌∙◌, subst, inl, inr, arith}
+use Rattle.std.proofs.Common.{◌≡◌, ◌<◌, ◌≤◌, ℕ, zero, suc, ◌+◌, ◌*◌, ◌++◌, Bool, true, false, cond, All, Option, Some, None, List, [], ◌∷◌, map, flat_map, filter_map, length, slice_get, IsSomeAnd, refl, sym, ap, ◌∙◌, subst, inl, inr, arith}
 use Rattle.std.specs.Prelude.{filter, bytes_eq}
 use Rattle.std.specs.List.{AllByRecursion, IsDistinct, cons_option, list_any, range_with_len}
 use Rattle.std.proofs.lemmas.List.Elements.{All-from_recursion, recursion_from_All}
@@ -17,29 +17,28 @@ use Rattle.vfa_ir.specs.declared.functions.Phi.{Phi}
 use Rattle.vfa_ir.specs.declared.functions.Term.{Term}
 use Rattle.vfa_ir.specs.declared.functions.Value.{Value}
 use Rattle.vfa_ir.specs.Defined.{NameUse, op_names, operand_names, term_names, uses_at, phi_uses, inst_uses, block_uses, line_count}
-use Rattle.vfa_ir.specs.PhisFit.{targets, edge_count}
+use Rattle.vfa_ir.specs.PhisFit.{targets}
 use Rattle.vfa_ir.specs.Printable.{IsKeptName, IsIntegerType, PrintableInst, PrintablePhi, PrintableBlock, PrintableCall, call_place, op_type, block_ids, block_types, inst_ids, inst_types, block_call_places, kept_names}
 use Rattle.vfa_ir.specs.Typed.{TypedInst, TypedPhi, TypedBlock}
-use Rattle.vfa_ir.specs.Walks.{IsEdge, IsWalk, IsDefinedAt, is_parameter, results_in, results_before, defined_over}
+use Rattle.vfa_ir.specs.Walks.{IsWalk, IsDefinedAt, is_parameter, results_in, results_before, defined_over}
 use Rattle.vfa_ir.specs.Words.{is_in}
 use Rattle.vfa_check.specs.Within.{IsWithin}
 use Rattle.vfa_cond.specs.Conditions.{name_type}
-use Rattle.vfa_mean.specs.Numbering.{kept_numbers, kept_blocks, kept_values, kept_calls, text_order, numbered, names_used, types_at, MayBeNumbered, DefinesKeptOnce, HasItsNames, KeptIsTyped, KeptPhisFit, KeptIsPrintable}
+use Rattle.vfa_mean.specs.Numbering.{kept_numbers, kept_blocks, kept_values, kept_calls, text_order, numbered, names_used, types_at, MayBeNumbered, DefinesKeptOnce, HasItsNames, KeptIsTyped, KeptPhiFits, KeptPhisFit, KeptIsPrintable}
 use Rattle.vfa_mean.specs.Outcomes.{first_block, type_of}
 use Rattle.vfa_mean.specs.Renaming.{Order, renamed_block, renamed_case, renamed_term}
-use Rattle.vfa_mean.specs.Numbering.{KeptPhiFits}
 use Rattle.vfa_mean.specs.Moments.{At}
 use Rattle.vfa_mean.proofs.FreshOperands.Definitions.{or_cases, in_left, in_right, in_cases, first_or_rest, in_first, in_rest}
 use Rattle.vfa_mean.proofs.KeptParts.{from_range, number_kept, in_block, kept_number}
-use Rattle.vfa_walk.proofs.TruthTypes.{parameters_are_integers}
+use Rattle.vfa_walk.proofs.TruthTypes.{parameters_are_integers, phi_types, each_of}
 use Rattle.vfa_rewrite.specs.Findings.{Findings}
 use Rattle.vfa_rewrite.specs.Marks.{first, IsLeftLine, unnamed}
-use Rattle.vfa_rewrite.specs.Rewritten.{Marks, with_numbers, shrunk, term_if_met, term_left, phis_left, lines_left, phi_left, rewritten_block, emptied, if_block_left, block_left, rewritten}
+use Rattle.vfa_rewrite.specs.Rewritten.{Marks, with_numbers, shrunk, term_if_met, phis_left, lines_left, rewritten_block, emptied, if_block_left, block_left, rewritten}
 use Rattle.vfa_rewrite.specs.Sizes.{IsLittleLarger}
 use Rattle.vfa_rewrite.proofs.BlocksLeft.{from_get, all_turned, picked_both, all_met_phis, good_lines, call_left_in}
 use Rattle.vfa_rewrite.proofs.DefinitionsLeft.{split_left, split_right, block_used}
 use Rattle.vfa_rewrite.proofs.EdgesLeft.{left_block, reached_block, edges_count, no_more_edges, is_edge_left, edge_was, target_reached, walk_to}
-use Rattle.vfa_rewrite.proofs.KeptLeft.{IsInKept, out_kept, at_kept, names_distinct, name_below, names_count, calls_among, calls_distinct, range_count}
+use Rattle.vfa_rewrite.proofs.KeptLeft.{out_kept, at_kept, names_distinct, name_below, names_count, calls_among, calls_distinct, range_count}
 use Rattle.vfa_rewrite.proofs.LeftLines.{Known, made_printable, known_call}
 use Rattle.vfa_rewrite.proofs.LeftParts.{IsGoodLine, both_counts}
 use Rattle.vfa_rewrite.proofs.LiveOperands.{before_end}
@@ -48,7 +47,6 @@ use Rattle.vfa_rewrite.proofs.Ranges.{parameters_below, phi_below, same_type}
 use Rattle.vfa_rewrite.proofs.Sublists.{sublist_in}
 use Rattle.vfa_rewrite.proofs.TargetsLeft.{blocks_count, calls_count, shrunk_length}
 use Rattle.vfa_rewrite.proofs.TermsLeft.{term_left_typed, term_left_printable}
-use Rattle.vfa_walk.proofs.TruthTypes.{phi_types, each_of}
 
 -- ---- uses by names
 

@@ -1,5 +1,5 @@
 -- On every walk over what is left names are defined before they are used.
-use Rattle.std.proofs.Common.{◌≡◌, ℕ, zero, suc, ◌+◌, ◌≤◌, ◌<◌, Bool, true, false, ◌||◌, Option, Some, None, List, [], ◌∷◌, ◌++◌, map, flat_map, slice_get, length, take, add-one, refl, sym, ◌∙◌, ap, subst, arith, inl, inr, ◌⊎◌, take_all, le_refl}
+use Rattle.std.proofs.Common.{◌≡◌, ℕ, zero, suc, ◌+◌, ◌≤◌, Bool, true, false, Option, Some, None, List, [], ◌∷◌, ◌++◌, map, flat_map, slice_get, length, take, add-one, refl, sym, ◌∙◌, ap, subst, arith, inl, inr, ◌⊎◌, take_all, le_refl}
 use Rattle.std.specs.List.{AllByRecursion, cons_option, list_any}
 use Rattle.std.proofs.lemmas.List.Elements.{All-from_recursion}
 use Rattle.std.proofs.lemmas.Option.{same_Some}
@@ -18,19 +18,19 @@ use Rattle.vfa_ir.specs.Defined.{Defined, NameUse, UseIsDefined, op_names, opera
 use Rattle.vfa_ir.specs.Operands.{no_cast_flags}
 use Rattle.vfa_ir.specs.Printable.{block_ids, inst_ids}
 use Rattle.vfa_ir.specs.Walks.{IsWalk, IsDefinedAt, is_in, is_parameter, results_in, results_before, defined_over}
-use Rattle.vfa_mean.specs.Moments.{Into, At}
+use Rattle.vfa_mean.specs.Moments.{Into}
 use Rattle.vfa_mean.proofs.FreshOperands.Definitions.{or_cases, or_left, or_right, in_left, in_right, in_cases, in_first, in_rest, first_or_rest}
 use Rattle.vfa_rewrite.specs.Findings.{Findings}
 use Rattle.vfa_rewrite.specs.Marks.{IsLeftLine, by_end, by_phi, ResultIsKept}
 use Rattle.vfa_rewrite.specs.Rewritten.{Marks, with_numbers, if_left, line_of, name_of, truncation, truncated_operand, narrowed, changed, if_stays, if_met, lines_left, term_left, kept_phis, phis_if_met, phis_left, phi_left, entries_left, edges_of, rewritten_block, emptied, if_block_left, block_left, rewritten}
 use Rattle.vfa_rewrite.proofs.BlocksLeft.{from_get, all_both, picked_both, all_met_phis, head_from, rest_from, all_from, left_line}
-use Rattle.vfa_rewrite.proofs.EdgesLeft.{IsEdgeLeft, edge_left, is_edge_left, block_at, reached_block, same_walk, reached_on, met_earlier, count_of}
+use Rattle.vfa_rewrite.proofs.EdgesLeft.{edge_left, is_edge_left, block_at, reached_block, same_walk, met_earlier, count_of}
 use Rattle.vfa_rewrite.proofs.LeftLines.{Known, Form, one, division, form, marked}
 use Rattle.vfa_rewrite.proofs.LeftParts.{lines_give}
 use Rattle.vfa_rewrite.proofs.LiveOperands.{before_more}
 use Rattle.vfa_rewrite.proofs.PhisLeft.{get_within, entry_from_left, entry_left_usable}
 use Rattle.vfa_rewrite.proofs.PutOperands.{name_defined}
-use Rattle.vfa_rewrite.proofs.TermsLeft.{term_left_usable, term_names_usable}
+use Rattle.vfa_rewrite.proofs.TermsLeft.{term_names_usable}
 
 -- ---- lists
 

@@ -1,22 +1,20 @@
 -- The edges and walks of what is left: they are edges and walks of the function, over blocks that are left and lines that are met.
-use Rattle.std.proofs.Common.{◌≡◌, ◌<◌, ◌≤◌, ℕ, zero, suc, ◌+◌, Bool, true, false, nat_eq, Option, Some, None, List, [], ◌∷◌, map, length, slice_get, refl, sym, ap, ◌∙◌, subst, arith}
+use Rattle.std.proofs.Common.{◌≡◌, ◌≤◌, ℕ, zero, suc, ◌+◌, Bool, true, false, nat_eq, Option, Some, None, List, [], ◌∷◌, map, length, slice_get, refl, sym, ap, ◌∙◌, subst, arith}
 use Rattle.std.specs.Prelude.{count_by}
 use Rattle.std.proofs.lemmas.Bool.{eqb-true, eqb-false}
 use Rattle.std.proofs.lemmas.Option.{same_Some}
-use Rattle.vfa_ir.specs.declared.operations.BlockId.{BlockId}
 use Rattle.vfa_ir.specs.declared.functions.Block.{Block}
 use Rattle.vfa_ir.specs.declared.functions.Function.{Function}
-use Rattle.vfa_ir.specs.declared.functions.Term.{Term}
 use Rattle.vfa_ir.specs.Defined.{line_count}
 use Rattle.vfa_ir.specs.PhisFit.{targets, edge_count}
-use Rattle.vfa_ir.specs.Walks.{IsEdge, IsWalk, is_in, successors}
+use Rattle.vfa_ir.specs.Walks.{IsEdge, IsWalk, is_in}
 use Rattle.vfa_mean.specs.Moments.{At}
 use Rattle.vfa_mean.specs.Outcomes.{first_block}
 use Rattle.vfa_rewrite.specs.Findings.{Findings}
-use Rattle.vfa_rewrite.specs.Marks.{Reached, first, next, AreMarks}
-use Rattle.vfa_rewrite.specs.Rewritten.{Marks, with_numbers, shrunk, term_if_met, term_left, edges_from, if_reached, edges_of, rewritten_block, emptied, if_block_left, block_left, rewritten}
+use Rattle.vfa_rewrite.specs.Marks.{Reached, first, next}
+use Rattle.vfa_rewrite.specs.Rewritten.{Marks, with_numbers, shrunk, term_if_met, edges_from, if_reached, edges_of, rewritten_block, emptied, if_block_left, block_left, rewritten}
 use Rattle.vfa_rewrite.proofs.LeftLines.{Known}
-use Rattle.vfa_rewrite.proofs.TargetsLeft.{tally, count_is, leads_to, in_tally, tally_in, IsLeftEdge, some_edge, edge_counts, fewer_edges, shrunk_counts}
+use Rattle.vfa_rewrite.proofs.TargetsLeft.{count_is, leads_to, in_tally, tally_in, IsLeftEdge, some_edge, edge_counts, fewer_edges, shrunk_counts}
 
 -- ---- edges of any function
 

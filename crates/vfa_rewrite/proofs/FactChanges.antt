@@ -46,6 +46,7 @@ use Rattle.vfa_rewrite.specs.ByFacts.{FactState, FactTable, fact_state, first_kn
 use Rattle.vfa_rewrite.specs.Findings.{IsUsable, AreUsable, StaysGiving, ChangeFits, ChangeHolds, ChangesHold}
 use Rattle.vfa_rewrite.proofs.ChangeForms.{CallIsUsable, CallFits, formed}
 use Rattle.vfa_rewrite.proofs.FactDecisions.{state_typed, operand_typed, fact_holds, met_at, MetIn, OfTypes}
+use Rattle.vfa_rewrite.proofs.FreshNames.{IsNamed, named_result}
 use Rattle.vfa_rewrite.proofs.LiveOperands.{operand_is_live}
 use Rattle.vfa_rewrite.proofs.MarkedLines.{usable_operand}
 
@@ -84,15 +85,6 @@ over_op w (Op.One fun u a strict) call h = absurd (cc)
 over_op w (Op.Part u pair index) call h = absurd (cc)
 over_op w (Op.Assume c) call h = absurd (cc)
 over_op w (Op.Call u c) call h = absurd (cc)
-
-record IsNamed (o : Option ValueId) (v : ℕ) : Type 0 where
-  name : ValueId
-  result : o ≡ Some name
-  same : name.0 ≡ v
-
-named_result : (o : Option ValueId) (v : ℕ) → is_result v o ≡ true → IsNamed o v
-named_result None v h = absurd (cc)
-named_result (Some name) v h = record { name = name; result = refl; same = eqb-true name.0 v h }
 
 record IsOverflowInst (w v : ℕ) (call : OverflowCall) (inst : Inst) : Type 0 where
   named : IsNamed inst.result v
@@ -142,7 +134,7 @@ overflow_line f w pair index call h =
       inst = l.found.inst;
       name = l.found.is.named.name;
       line = record { there = l.there; stands = l.found.there };
-      result = l.found.is.named.result;
+      result = l.found.is.named.is;
       same = l.found.is.named.same;
       is = l.found.is.is;
     }

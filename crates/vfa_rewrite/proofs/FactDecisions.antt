@@ -42,7 +42,7 @@ use Rattle.vfa_xfer.specs.Transfers.{fact_answers}
 use Rattle.vfa_rules.specs.declared.change.Change.{Change}
 use Rattle.vfa_rules.specs.Order.{Known, changed}
 use Rattle.vfa_rewrite.specs.ByFacts.{FactState, FactTable, fact_state, decided_by, decision_of, decision_in, facts_known, change_in, edge_state, findings_of}
-use Rattle.vfa_rewrite.specs.Findings.{Undecided, IsTypedOperand, IsDecisionOf, DecisionHolds, ChangesHold, AreTrue}
+use Rattle.vfa_rewrite.specs.Findings.{IsTypedOperand, IsDecisionOf, DecisionHolds, ChangesHold, AreTrue}
 use Rattle.vfa_rewrite.proofs.Lines.{call_tells}
 use Rattle.vfa_rewrite.proofs.Ranges.{typed_value}
 
@@ -81,9 +81,6 @@ parts_of_type : (t : Ty) (p : Parts) → IsOf fact_type IsAnyFact t (record { pa
 parts_of_type (Ty.Int w) (Parts.One c) of = cell_of_type w c.numbers (single_in c) (fact_laws.typed.single w (record { parts = Parts.One c }) of)
 parts_of_type (Ty.Pair w) (Parts.One c) of = absurd (let e = of.typed in cc)
 parts_of_type t (Parts.Two c d) of = tt
-
-undecided_of_type : (t : Ty) → IsDecisionOf t Undecided
-undecided_of_type t = tt
 
 -- ---- operands
 

@@ -1,5 +1,5 @@
 -- What a table of facts and the rules find out fits, whether or not the table is true.
-use Rattle.std.proofs.Common.{◌≡◌, ◌<◌, ℕ, zero, suc, true, false, Option, Some, None, List, [], ◌∷◌, take, is_some, slice_get, refl}
+use Rattle.std.proofs.Common.{◌≡◌, ℕ, zero, suc, true, Option, Some, None, List, [], ◌∷◌, take, is_some, slice_get, refl}
 use Rattle.vfa_ir.specs.declared.functions.Function.{Function}
 use Rattle.vfa_ir.specs.declared.functions.Inst.{Inst}
 use Rattle.vfa_ir.specs.Defined.{line_count}

@@ -1,5 +1,6 @@
 -- The names that narrowing adds: each is new, and of the lesser width.
-use Rattle.std.proofs.Common.{◌≡◌, ◌<◌, ◌≤◌, ◌+◌, ◌*◌, ℕ, zero, suc, true, false, Option, Some, None, List, [], ◌∷◌, ◌++◌, length, slice_get, refl, sym, ap, ◌∙◌, subst, arith}
+use Rattle.std.proofs.Common.{◌≡◌, ◌<◌, ◌≤◌, ◌+◌, ◌*◌, ℕ, suc, true, false, Option, Some, None, length, refl, sym, ap, ◌∙◌, subst, arith}
+use Rattle.std.proofs.lemmas.Bool.{eqb-true}
 use Rattle.vfa_ir.specs.declared.operations.Op.{Op}
 use Rattle.vfa_ir.specs.declared.operations.Ty.{Ty}
 use Rattle.vfa_ir.specs.declared.operations.ValueId.{ValueId}
@@ -14,9 +15,10 @@ use Rattle.vfa_mean.specs.Moments.{IsLine, is_call}
 use Rattle.vfa_mean.proofs.FreshOperands.Definitions.{line_definition}
 use Rattle.vfa_cond.specs.Conditions.{name_type}
 use Rattle.vfa_rules.specs.declared.change.Change.{Change}
+use Rattle.vfa_rules.specs.Uses.{is_result}
 use Rattle.vfa_rewrite.specs.Rewritten.{Marks, rewritten}
 use Rattle.vfa_rewrite.specs.Findings.{Findings}
-use Rattle.vfa_rewrite.specs.Marks.{IsLeftLine, fresh_name, AreFresh, IsNarrowed, AddedType, at_width, not_narrowed, unnamed, IsAdded, AreMarks}
+use Rattle.vfa_rewrite.specs.Marks.{IsLeftLine, fresh_name, IsNarrowed, AddedType, at_width, not_narrowed, AreMarks}
 use Rattle.vfa_rewrite.proofs.Left.{get_behind}
 use Rattle.vfa_rewrite.proofs.Ranges.{defines_once, result_below, type_at}
 
@@ -38,6 +40,17 @@ same_line f once b b' block block' i i' inst inst' name name' line line' result 
     let place : b ≡ b' = sym forth.0 in
     let blocks : block ≡ block' = let p = line.there in let q = line'.there in cc in
     record { same_block = place; same_place = at; same_inst = let p = line.stands in let q = line'.stands in cc }
+
+-- ---- a result of a given name
+
+pub record IsNamed (result : Option ValueId) (n : ℕ) : Type 0 where
+  pub name : ValueId
+  pub is : result ≡ Some name
+  pub same : name.0 ≡ n
+
+pub named_result : (result : Option ValueId) (n : ℕ) → is_result n result ≡ true → IsNamed result n
+named_result None n h = absurd (cc)
+named_result (Some name) n h = record { name = name; is = refl; same = eqb-true name.0 n h }
 
 -- ---- a narrowed division has a result
 

@@ -1,13 +1,12 @@
 -- What is kept of a rewritten function defines each name once, names of the function and new ones, and makes each call once.
-use Rattle.std.proofs.Common.{◌≡◌, ◌<◌, ◌≤◌, ℕ, zero, suc, ◌+◌, ◌*◌, ◌++◌, Bool, true, false, cond, nat_eq, All, Option, Some, None, List, [], ◌∷◌, map, flat_map, filter_map, length, slice_get, refl, sym, ap, ◌∙◌, subst, inl, inr, ◌⊎◌, arith, ne_eqb}
+use Rattle.std.proofs.Common.{◌≡◌, ◌<◌, ◌≤◌, ℕ, zero, suc, ◌+◌, ◌*◌, ◌++◌, Bool, true, false, cond, nat_eq, All, Option, Some, None, List, [], ◌∷◌, map, flat_map, length, slice_get, refl, sym, ap, ◌∙◌, subst, inl, inr, ◌⊎◌, arith, ne_eqb}
 use Rattle.std.specs.Prelude.{filter}
 use Rattle.std.specs.List.{AllByRecursion, IsDistinct, cons_option, range_with_len}
 use Rattle.std.proofs.lemmas.List.Elements.{All-from_recursion}
-use Rattle.std.proofs.lemmas.Option.{same_Some}
 use Rattle.vfa_ir.specs.declared.functions.Block.{Block}
 use Rattle.vfa_ir.specs.declared.functions.Function.{Function}
 use Rattle.vfa_ir.specs.declared.functions.Param.{Param}
-use Rattle.vfa_ir.specs.Printable.{block_ids, block_call_places, ids_of, call_places}
+use Rattle.vfa_ir.specs.Printable.{block_ids, block_call_places}
 use Rattle.vfa_ir.specs.Words.{is_in}
 use Rattle.vfa_mean.specs.Numbering.{kept_numbers, kept_blocks, kept_values, kept_calls}
 use Rattle.vfa_mean.specs.Renaming.{at_places}

@@ -1,7 +1,7 @@
 -- What is left of an instruction: one line that does an operation, or those of a division at a lesser width.
-use Rattle.std.proofs.Common.{◌≡◌, ◌<◌, ℕ, ◌+◌, ◌*◌, ◌++◌, Bool, true, false, Option, Some, None, List, [], ◌∷◌, All, flat_map, map, length, slice_get, IsSomeAnd, refl, sym, ap, ◌∙◌, subst, inl, inr}
+use Rattle.std.proofs.Common.{◌≡◌, ◌<◌, ℕ, ◌+◌, ◌*◌, ◌++◌, true, false, Option, Some, None, List, [], ◌∷◌, All, flat_map, map, length, slice_get, IsSomeAnd, refl, sym, ap, ◌∙◌, subst, inl, inr}
 use Rattle.std.proofs.lemmas.Bool.{cases_Bool}
-use Rattle.std.proofs.lemmas.List.Elements.{All-head, All-tail, All-from_recursion, recursion_from_All}
+use Rattle.std.proofs.lemmas.List.Elements.{All-from_recursion, recursion_from_All}
 use Rattle.std.specs.List.{AllByRecursion}
 use Rattle.vfa_ir.specs.declared.operations.Bin.{Bin}
 use Rattle.vfa_ir.specs.declared.operations.Flags.{Flags}
@@ -15,7 +15,6 @@ use Rattle.vfa_ir.specs.declared.functions.CallOp.{CallOp}
 use Rattle.vfa_ir.specs.declared.functions.Function.{Function}
 use Rattle.vfa_ir.specs.declared.functions.Inst.{Inst}
 use Rattle.vfa_ir.specs.Defined.{Defined, operand_names, op_names}
-use Rattle.vfa_ir.specs.Grammar.{IsWidth as IsWrittenWidth}
 use Rattle.vfa_ir.specs.Operands.{operands_of, arguments_of}
 use Rattle.vfa_ir.specs.PhisFit.{PhisFit}
 use Rattle.vfa_ir.specs.Printable.{IsPrintable, HasItsFlags, HasItsResult, PrintableOp, PrintableInst, PrintableBlock, PrintableArgument, PrintableCall, op_type, call_place}
@@ -24,20 +23,20 @@ use Rattle.vfa_ir.specs.Walks.{IsDefinedAt}
 use Rattle.vfa_ir.specs.Words.{is_in}
 use Rattle.vfa_word.specs.Numbers.{IsWidth}
 use Rattle.vfa_mean.specs.FreshOperands.{IsDefinedAtPlace}
-use Rattle.vfa_mean.specs.Moments.{Place, At, IsLine, is_call}
+use Rattle.vfa_mean.specs.Moments.{At, is_call}
 use Rattle.vfa_mean.specs.Operands.{IsOperation}
 use Rattle.vfa_mean.proofs.FreshOperands.Definitions.{in_left, in_right, in_cases}
 use Rattle.vfa_mean.proofs.FreshOperands.Walking.{use_is_defined}
 use Rattle.vfa_cond.specs.Conditions.{name_type}
 use Rattle.vfa_walk.proofs.TruthTypes.{written_width, each_of, line_is_typed, is_operation}
 use Rattle.vfa_rules.specs.declared.change.Change.{Change}
-use Rattle.vfa_rewrite.specs.Findings.{Findings, IsUsable, AreUsable, operation_of, IsAssume, IsFitting, ChangeFits, AreFitting}
-use Rattle.vfa_rewrite.specs.Marks.{Becomes, IsPut, IsGone, HasEffect, IsLeftLine, UsesName, by_effect, by_line, ResultIsKept, LineIsMarked, BlockIsMarked, AreMarks}
+use Rattle.vfa_rewrite.specs.Findings.{Findings, IsUsable, AreUsable, operation_of, IsFitting, ChangeFits, AreFitting}
+use Rattle.vfa_rewrite.specs.Marks.{Becomes, IsPut, IsGone, HasEffect, IsLeftLine, UsesName, by_effect, by_line, LineIsMarked, BlockIsMarked, AreMarks}
 use Rattle.vfa_rewrite.specs.Rewritten.{Marks, with_operands, line_of, narrowed, argument_left, call_left, changed_by, changed, rewritten}
 use Rattle.vfa_rewrite.proofs.FreshNames.{fresh_typed}
 use Rattle.vfa_rewrite.proofs.Left.{made_at}
 use Rattle.vfa_rewrite.proofs.Lines.{call_tells}
-use Rattle.vfa_rewrite.proofs.MarkedLines.{usable_operand, operation_plain, assume_has_no_result, kept_result}
+use Rattle.vfa_rewrite.proofs.MarkedLines.{names_in, usable_operand, operation_plain, assume_has_no_result, kept_result}
 use Rattle.vfa_rewrite.proofs.PutOperands.{becomes_usable, put_usable, operand_left_typed, operand_left_range, usable_typed, usable_printable, name_defined, names_defined, put_type, put_operation, put_place, put_result, plain_place}
 
 -- names that narrowing adds for an instruction that gives a name, at the lesser width v
@@ -56,9 +55,6 @@ pub record Known (f : Function) (found : Findings) (m : Marks) : Type 0 where
 
 abbrev names_of_args : List CallArg → List ℕ
 names_of_args args = flat_map (λ (a : CallArg). operand_names a.value) args
-
-abbrev names_in : Option CallOp → List ℕ
-names_in o = elim o [ None ↦ [] | Some c ↦ flat_map (λ (a : CallArg). operand_names a.value) c.args ]
 
 module _ (f : Function) (found : Findings) (m : Marks) (known : Known f found m) (b : ℕ) (block : Block) (i : ℕ) (inst : Inst) (left : IsLeftLine f m b block i inst) where
   pub own_marks : BlockIsMarked f found m b block
@@ -103,7 +99,6 @@ module _ (f : Function) (found : Findings) (m : Marks) (known : Known f found m)
     pub first : IsUsable f (At b i) (Ty.Int w) x
     pub second : IsUsable f (At b i) (Ty.Int w) y
     pub names : (u : ℕ) → is_in u (operand_names x ++ operand_names y) ≡ true → (m.keeps u ≡ true) × IsDefinedAt f b i u
-    pub no_call : call_place inst.op ≡ None
     pub fresh : AreFreshFor f m b i name.0 v
 
   pub data Form : List Inst → Type 0 where
@@ -168,7 +163,6 @@ module _ (f : Function) (found : Findings) (m : Marks) (known : Known f found m)
               used_kept stays u (subst (λ c. is_in u (op_names (rewritten f m) (with_operands (m.put (At b i)) (operation_of c inst.op))) ≡ true) (sym e) t),
               names_defined f m (At b i) (Op.Bin bin flags w (m.put (At b i) x) (m.put (At b i) y)) u holding.fits.1 usable' t,
             );
-            no_call = plain_place inst.op plain;
             fresh = record {
               is = (own_marks.fresh i inst named.0 (Op.Bin bin flags w x y) v left.line.stands left.met named.1 e).fresh;
               typed = fresh_typed f known.printable found m known.marks b block i inst left named.0 named.1 (Op.Bin bin flags w x y) v e;

@@ -1,6 +1,6 @@
 -- What is left of an instruction is typed and may be printed; it gives the instruction's name, names that are new, and no other
 -- call.
-use Rattle.std.proofs.Common.{◌≡◌, ◌<◌, ℕ, zero, suc, ◌+◌, ◌*◌, ◌%◌, ◌^◌, ◌++◌, Bool, true, false, Option, Some, None, List, [], ◌∷◌, map, filter_map, length, slice_get, IsSomeAnd, refl, sym, ap, ◌∙◌, subst, inl, inr, arith}
+use Rattle.std.proofs.Common.{◌≡◌, ◌<◌, ℕ, ◌+◌, ◌*◌, ◌^◌, ◌++◌, true, false, Option, Some, None, List, [], ◌∷◌, filter_map, length, IsSomeAnd, refl, sym, ap, ◌∙◌, subst, arith}
 use Rattle.std.proofs.lemmas.Nat.{pow_pos, mod_below}
 use Rattle.std.specs.List.{AllByRecursion, cons_option}
 use Rattle.std.specs.Option.{option_map_or}
@@ -17,8 +17,8 @@ use Rattle.vfa_ir.specs.declared.functions.Inst.{Inst}
 use Rattle.vfa_ir.specs.declared.functions.Value.{Value}
 use Rattle.vfa_ir.specs.Grammar.{IsWidth as IsWrittenWidth}
 use Rattle.vfa_ir.specs.Operands.{no_cast_flags}
-use Rattle.vfa_ir.specs.Printable.{IsOperand, HasItsCastFlags, HasItsResult, PrintableOp, PrintableInst, op_type, inst_ids, call_place}
-use Rattle.vfa_ir.specs.Typed.{TypedOp, TypedInst, IsOfType, HasType}
+use Rattle.vfa_ir.specs.Printable.{IsOperand, HasItsCastFlags, HasItsResult, PrintableInst, op_type, inst_ids, call_place}
+use Rattle.vfa_ir.specs.Typed.{TypedOp, IsOfType, HasType}
 use Rattle.vfa_ir.specs.Words.{is_in}
 use Rattle.vfa_word.specs.Numbers.{IsWidth}
 use Rattle.vfa_mean.specs.Moments.{At}
@@ -29,7 +29,7 @@ use Rattle.vfa_walk.proofs.TruthTypes.{line_type}
 use Rattle.vfa_rewrite.specs.Findings.{Findings, IsUsable}
 use Rattle.vfa_rewrite.specs.Marks.{IsLeftLine}
 use Rattle.vfa_rewrite.specs.Rewritten.{Marks, line_of, name_of, truncation, truncated_operand, narrowed, rewritten}
-use Rattle.vfa_rewrite.proofs.LeftLines.{Known, AreFreshFor, IsLineFor, IsDivisionFor, Form, one, division}
+use Rattle.vfa_rewrite.proofs.LeftLines.{Known, IsDivisionFor, Form, one, division}
 use Rattle.vfa_rewrite.proofs.PutOperands.{operand_left_typed, operand_left_range}
 use Rattle.vfa_rewrite.proofs.Ranges.{result_below, same_type}
 use Rattle.vfa_rewrite.proofs.Sublists.{IsSublist, end, skip, keep, sublist_self, sublist_none}

@@ -123,6 +123,10 @@ assume_has_no_result m (Op.Over over w a b) result is has kept = is
 assume_has_no_result m (Op.Part w pair index) result is has kept = is
 assume_has_no_result m (Op.Call w call) result is has kept = is
 
+-- the names among the arguments of a call
+abbrev pub names_in : Option CallOp → List ℕ
+names_in o = elim o [ None ↦ [] | Some c ↦ flat_map (λ (a : CallArg). operand_names a.value) c.args ]
+
 -- a result that is kept is of a name
 pub record KeptResult (m : Marks) (result : Option ValueId) : Type 0 where
   pub name : ValueId
@@ -284,7 +288,7 @@ module _ (f : Function) (printable : IsPrintable f) (typed : Typed f) (defined :
               (AllowsResult-trans was.result given.result came.given was.allows given.allows)
               (λ q same. subst (λ t. IsValueOf t q) (sym holding.fits.0)
               (narrowed_typed bin flags w v holding.fits.1 holding.fits.2 holding.fits.3 (operand_value env' (m.put (At b i) x)) (operand_value env' y') q
-              agree.values.first agree.values.second (subst (λ r. NarrowedGives bin flags v w (operand_value env' (m.put (At b i) x)) (operand_value env' y') r) same came.gives)))
+              agree.values.first agree.values.second (subst (λ r. NarrowedGives bin flags v w (operand_value env' (m.put (At b i) x)) (operand_value env' y') r) {x = came.given} same came.gives)))
               came.comes;
         }
 
@@ -347,9 +351,6 @@ module _ (f : Function) (printable : IsPrintable f) (typed : Typed f) (defined :
               (λ n t. live n (in_right n (operand_names a.value) names t)) operands.1
               (λ n t. kept n (in_right n (operand_names (m.put_call k a.value)) names' t)),
         )
-
-    abbrev names_in : Option CallOp → List ℕ
-    names_in o = elim o [ None ↦ [] | Some c ↦ flat_map (λ (a : CallArg). operand_names a.value) c.args ]
 
     call_stands : CallStands f m b i inst k call
     call_stands =

@@ -1,5 +1,5 @@
 -- Two marks of the same findings leave the same function.
-use Rattle.std.proofs.Common.{◌≡◌, ◌<◌, ◌+◌, ◌*◌, ◌-◌, ℕ, zero, suc, nat_eq, if◌then◌else◌, Bool, true, false, Option, Some, None, List, [], ◌∷◌, ◌++◌, map, length, slice_get, refl, sym, ap, ◌∙◌, subst, inl, inr, ◌⊎◌, arith}
+use Rattle.std.proofs.Common.{◌≡◌, ◌<◌, ◌+◌, ◌*◌, ◌-◌, ℕ, zero, suc, nat_eq, if◌then◌else◌, Bool, true, false, Option, Some, List, [], ◌∷◌, ◌++◌, map, length, slice_get, refl, sym, ap, ◌∙◌, subst, inl, inr, ◌⊎◌, arith}
 use Rattle.std.proofs.lemmas.Bool.{cases_Bool, eqb-true, eq-eqb}
 use Rattle.std.proofs.lemmas.Option.{same_Some}
 use Rattle.std.specs.List.{AllByRecursion}
@@ -7,24 +7,21 @@ use Rattle.vfa_ir.specs.declared.operations.BlockId.{BlockId}
 use Rattle.vfa_ir.specs.declared.operations.Op.{Op}
 use Rattle.vfa_ir.specs.declared.operations.Operand.{Operand}
 use Rattle.vfa_ir.specs.declared.operations.Ty.{Ty}
-use Rattle.vfa_ir.specs.declared.operations.ValueId.{ValueId}
 use Rattle.vfa_ir.specs.declared.functions.Block.{Block}
-use Rattle.vfa_ir.specs.declared.functions.CallArg.{CallArg}
 use Rattle.vfa_ir.specs.declared.functions.CallOp.{CallOp}
 use Rattle.vfa_ir.specs.declared.functions.Function.{Function}
 use Rattle.vfa_ir.specs.declared.functions.Inst.{Inst}
 use Rattle.vfa_ir.specs.declared.functions.Phi.{Phi}
-use Rattle.vfa_ir.specs.declared.functions.Value.{Value}
 use Rattle.vfa_ir.specs.Operands.{operands_of, arguments_of}
 use Rattle.vfa_ir.specs.Printable.{IsPrintable, HasItsResult, PrintableInst, PrintableBlock}
-use Rattle.vfa_mean.specs.Moments.{Into, At, IsLine, is_call}
+use Rattle.vfa_mean.specs.Moments.{Into, At, is_call}
 use Rattle.vfa_mean.specs.Numbering.{numbered}
 use Rattle.vfa_walk.proofs.TruthTypes.{each_of}
 use Rattle.vfa_rules.specs.declared.change.Change.{Change}
 use Rattle.vfa_rewrite.specs.Alike.{LeaveTheSame}
-use Rattle.vfa_rewrite.specs.Rewritten.{Marks, if_left, with_numbers, line_of, narrowed, with_operands, changed_by, changed, if_stays, if_met, lines_left, argument_left, call_left, edges_of, one_fewer, if_counted, entries_left, phi_left, kept_phis, phis_if_met, phis_left, rewritten_block, if_block_left, emptied, block_left, term_left, rewritten}
+use Rattle.vfa_rewrite.specs.Rewritten.{Marks, if_left, with_numbers, line_of, narrowed, with_operands, changed_by, changed, if_stays, if_met, lines_left, argument_left, call_left, edges_of, one_fewer, if_counted, entries_left, phi_left, kept_phis, phis_if_met, phis_left, rewritten_block, if_block_left, emptied, block_left, rewritten}
 use Rattle.vfa_rewrite.specs.Findings.{Findings, operation_of, IsFitting, AreFitting}
-use Rattle.vfa_rewrite.specs.Marks.{IsPut, IsLeftLine, IsLeftCall, fresh_name, IsNarrowed, AddedType, at_width, not_narrowed, unnamed, AreMarks}
+use Rattle.vfa_rewrite.specs.Marks.{IsPut, IsLeftLine, IsLeftCall, IsNarrowed, AddedType, at_width, not_narrowed, unnamed, AreMarks}
 use Rattle.vfa_rewrite.proofs.FreshNames.{HasName, has_result, narrowed_one}
 use Rattle.vfa_rewrite.proofs.Lines.{IsCall, call_tells}
 use Rattle.vfa_rewrite.proofs.MarkedBlocks.{all_at}

@@ -24,11 +24,11 @@ use Rattle.vfa_rules.specs.declared.change.Change.{Change}
 use Rattle.vfa_rewrite.specs.Rewritten.{Marks, with_numbers, with_operands, argument_left, call_left, shrunk, two_ways, one_way, many_ways, cases_left, term_if_met, term_left, edges_from, if_reached, edges_of, rewritten}
 use Rattle.vfa_rewrite.specs.Findings.{Findings, operation_of, AreFitting}
 use Rattle.vfa_rewrite.specs.Marks.{Becomes, IsPut, term_operands, Kept, by_end, by_effect, by_line, by_phi, IsLeftLine, UsesName, ResultIsKept, LineIsMarked, EntryIsMarked, BlockIsMarked, AreMarks}
-use Rattle.vfa_rewrite.proofs.KeptNames.{names_in, changed_plain}
+use Rattle.vfa_rewrite.proofs.KeptNames.{changed_plain}
 use Rattle.vfa_rewrite.proofs.Left.{made_at}
 use Rattle.vfa_rewrite.proofs.Lines.{call_tells}
 use Rattle.vfa_rewrite.proofs.MarkedBlocks.{at_all}
-use Rattle.vfa_rewrite.proofs.MarkedLines.{put_plain}
+use Rattle.vfa_rewrite.proofs.MarkedLines.{names_in, put_plain}
 use Rattle.vfa_rewrite.proofs.OneOperand.{becomes_one}
 
 -- ---- what is alike

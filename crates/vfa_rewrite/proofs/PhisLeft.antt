@@ -1,9 +1,9 @@
 -- The phis that are left: as many entries of a predecessor as edges from it are left, with operands that may be used.
-use Rattle.std.proofs.Common.{◌≡◌, ◌<◌, ◌≤◌, ℕ, zero, suc, ◌+◌, ◌-◌, Bool, true, false, nat_eq, if◌then◌else◌, All, Option, Some, None, List, [], ◌∷◌, length, slice_get, refl, sym, ap, ◌∙◌, subst, inl, inr, ◌⊎◌, arith}
-use Rattle.std.specs.Prelude.{count_by, slice_index_or, AllPairs, IfSome}
+use Rattle.std.proofs.Common.{◌≡◌, ◌<◌, ◌≤◌, ℕ, zero, suc, ◌-◌, Bool, true, false, nat_eq, if◌then◌else◌, All, Some, List, [], ◌∷◌, length, slice_get, refl, sym, ap, ◌∙◌, subst, inl, inr, arith}
+use Rattle.std.specs.Prelude.{slice_index_or, AllPairs, IfSome}
 use Rattle.std.specs.List.{AllByRecursion}
 use Rattle.std.proofs.lemmas.Bool.{eqb-true, eqb-false, ne_eqb, eq-eqb, cases_lt}
-use Rattle.std.proofs.lemmas.List.Elements.{All-from_recursion, recursion_from_All}
+use Rattle.std.proofs.lemmas.List.Elements.{All-from_recursion}
 use Rattle.std.proofs.lemmas.Option.{same_Some}
 use Rattle.vfa_ir.specs.declared.operations.BlockId.{BlockId}
 use Rattle.vfa_ir.specs.declared.operations.Operand.{Operand}
@@ -11,8 +11,7 @@ use Rattle.vfa_ir.specs.declared.operations.Ty.{Ty}
 use Rattle.vfa_ir.specs.declared.functions.Block.{Block}
 use Rattle.vfa_ir.specs.declared.functions.Function.{Function}
 use Rattle.vfa_ir.specs.declared.functions.Phi.{Phi}
-use Rattle.vfa_ir.specs.Defined.{operand_names, line_count}
-use Rattle.vfa_ir.specs.PhisFit.{edge_count, PhiFits, PhisFit}
+use Rattle.vfa_ir.specs.PhisFit.{PhiFits}
 use Rattle.vfa_ir.specs.Printable.{IsOperand, IsBlock, PrintablePhi, PrintableBlock}
 use Rattle.vfa_ir.specs.Typed.{TypedPhi, TypedBlock, IsOfType}
 use Rattle.vfa_ir.specs.Walks.{IsWalk}
@@ -26,11 +25,11 @@ use Rattle.vfa_rewrite.specs.Findings.{Findings, IsUsable}
 use Rattle.vfa_rewrite.specs.Marks.{EntryIsMarked}
 use Rattle.vfa_rewrite.specs.Rewritten.{Marks, edge_to, edges_of, one_fewer, if_counted, entries_left, phi_left, rewritten}
 use Rattle.vfa_rewrite.proofs.BlocksLeft.{from_get}
-use Rattle.vfa_rewrite.proofs.EdgesLeft.{IsEdgeLeft, edge_left, edges_count, no_more_edges, edge_is_counted, walk_to}
+use Rattle.vfa_rewrite.proofs.EdgesLeft.{edge_left, edges_count, no_more_edges, edge_is_counted, walk_to}
 use Rattle.vfa_rewrite.proofs.LeftLines.{Known}
 use Rattle.vfa_rewrite.proofs.MarkedBlocks.{entry_defined, at_all}
 use Rattle.vfa_rewrite.proofs.MarkedLines.{usable_operand}
-use Rattle.vfa_rewrite.proofs.PutOperands.{becomes_usable, operand_left_typed, operand_left_range, name_defined}
+use Rattle.vfa_rewrite.proofs.PutOperands.{becomes_usable, operand_left_typed, operand_left_range}
 use Rattle.vfa_rewrite.proofs.TargetsLeft.{tally, count_is, blocks_count}
 
 abbrev Entry : Type 0

@@ -1,5 +1,5 @@
 -- What an operand becomes may be used where the operand may, and so may the operands that are put in an operation.
-use Rattle.std.proofs.Common.{◌≡◌, ◌<◌, ◌≤◌, ℕ, zero, suc, ◌+◌, ◌++◌, true, false, Option, Some, None, List, [], ◌∷◌, IsSomeAnd, length, slice_get, refl, sym, ap, ◌∙◌, subst, inl, inr, arith}
+use Rattle.std.proofs.Common.{◌≡◌, ◌<◌, ℕ, zero, suc, ◌++◌, true, false, Option, None, List, [], ◌∷◌, IsSomeAnd, length, refl, sym, ap, ◌∙◌, subst, inl, inr, arith}
 use Rattle.std.proofs.lemmas.Bool.{cases_Bool}
 use Rattle.std.specs.List.{AllByRecursion}
 use Rattle.vfa_ir.specs.declared.operations.Op.{Op}

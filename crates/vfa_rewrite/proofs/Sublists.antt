@@ -1,5 +1,5 @@
 -- Some elements of a list, in order.
-use Rattle.std.proofs.Common.{◌≡◌, ℕ, zero, suc, ◌≤◌, true, false, nat_eq, List, [], ◌∷◌, ◌++◌, length, inl, inr, arith}
+use Rattle.std.proofs.Common.{◌≡◌, ℕ, ◌≤◌, true, false, nat_eq, List, [], ◌∷◌, ◌++◌, length, inl, inr, arith}
 use Rattle.std.specs.List.{AllByRecursion, IsDistinct}
 use Rattle.vfa_ir.specs.Words.{is_in}
 use Rattle.vfa_mean.proofs.FreshOperands.Definitions.{in_first, in_rest, first_or_rest}

@@ -1,5 +1,5 @@
 -- The edges of the terminator that is left are those that are left of the edges there were.
-use Rattle.std.proofs.Common.{◌≡◌, ◌<◌, ◌≤◌, ◌^◌, ℕ, zero, suc, ◌+◌, Bool, true, false, cond, nat_eq, Some, List, [], ◌∷◌, map, length, slice_get, All, refl, sym, ap, ◌∙◌, subst, inl, inr, arith}
+use Rattle.std.proofs.Common.{◌≡◌, ◌<◌, ◌≤◌, ◌^◌, ℕ, zero, suc, ◌+◌, Bool, true, false, cond, nat_eq, Some, List, [], ◌∷◌, map, length, slice_get, refl, sym, ap, ◌∙◌, subst, inl, inr, arith}
 use Rattle.std.specs.Prelude.{count_by, fold}
 use Rattle.std.specs.List.{AllByRecursion, IsDistinct}
 use Rattle.std.proofs.lemmas.Bool.{eqb-true, eq-eqb}
@@ -8,7 +8,6 @@ use Rattle.std.proofs.lemmas.Option.{same_Some}
 use Rattle.vfa_ir.specs.declared.operations.BlockId.{BlockId}
 use Rattle.vfa_ir.specs.declared.operations.Operand.{Operand}
 use Rattle.vfa_ir.specs.declared.operations.Ty.{Ty}
-use Rattle.vfa_ir.specs.declared.functions.Block.{Block}
 use Rattle.vfa_ir.specs.declared.functions.Function.{Function}
 use Rattle.vfa_ir.specs.declared.functions.Term.{Term}
 use Rattle.vfa_ir.specs.PhisFit.{targets}
@@ -21,7 +20,7 @@ use Rattle.vfa_rewrite.specs.Findings.{IsUsable}
 use Rattle.vfa_rewrite.specs.Marks.{term_operands}
 use Rattle.vfa_rewrite.specs.Rewritten.{Marks, with_numbers, if_left, two_ways, one_way, cases_left, but_last, last_target, many_ways, shrunk, edge_to, edges_from, rewritten}
 use Rattle.vfa_rewrite.proofs.PutOperands.{operand_left_typed, operand_left_range}
-use Rattle.vfa_rewrite.proofs.Sublists.{IsSublist, end, skip, keep, sublist_self, sublist_trans, sublist_distinct}
+use Rattle.vfa_rewrite.proofs.Sublists.{IsSublist, end, skip, keep, sublist_distinct}
 
 -- ---- how many pass a test
 

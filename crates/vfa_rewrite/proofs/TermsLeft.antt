@@ -1,5 +1,5 @@
 -- The terminators that are left: typed, printable, and their names are defined.
-use Rattle.std.proofs.Common.{◌≡◌, ℕ, Bool, true, false, Some, List, [], ◌∷◌, length, slice_get, refl, subst}
+use Rattle.std.proofs.Common.{◌≡◌, ℕ, Bool, true, false, Some, List, [], ◌∷◌, length, slice_get, refl}
 use Rattle.std.specs.List.{AllByRecursion}
 use Rattle.vfa_ir.specs.declared.operations.BlockId.{BlockId}
 use Rattle.vfa_ir.specs.declared.operations.Operand.{Operand}
@@ -13,7 +13,7 @@ use Rattle.vfa_ir.specs.Typed.{TypedTerm, TypedBlock, IsOfType}
 use Rattle.vfa_ir.specs.Walks.{IsDefinedAt}
 use Rattle.vfa_ir.specs.Words.{is_in}
 use Rattle.vfa_word.specs.Numbers.{IsWidth}
-use Rattle.vfa_mean.specs.Moments.{Place, At}
+use Rattle.vfa_mean.specs.Moments.{At}
 use Rattle.vfa_cond.proofs.Fitting.{bit_width}
 use Rattle.vfa_walk.proofs.TruthTypes.{written_width, each_of}
 use Rattle.vfa_rewrite.specs.Findings.{Findings, IsUsable}

@@ -1,6 +1,6 @@
 -- What an operand becomes, by following the operands that take its place: in `%a = and i8 %x, 15`, `%b = and i8 %a, 31`,
 -- `%c = freeze i8 %b` the name %c becomes %b, and %b becomes %a.
-use Rattle.std.specs.Prelude.{ℕ, zero, suc, Bool, ◌&&◌, if◌then◌else◌, Option, Some, None, List, [], ◌∷◌, ⊤}
+use Rattle.std.specs.Prelude.{ℕ, zero, suc, ◌&&◌, if◌then◌else◌, Option, Some, None, ⊤}
 use Rattle.vfa_ir.specs.declared.operations.Operand.{Operand}
 use Rattle.vfa_ir.specs.declared.operations.Ty.{Ty}
 use Rattle.vfa_ir.specs.declared.functions.Block.{Block}

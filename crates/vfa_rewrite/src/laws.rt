@@ -1,12 +1,13 @@
 //! Laws of rewriting.
 
-ghost use Rattle.std.specs.Prelude.{◌≡◌, ◌≤◌, ◌^◌, length};
+ghost use Rattle.std.specs.Prelude.{ℕ, ◌≡◌, ◌≤◌, ◌^◌, length};
 ghost use Rattle.vfa_ir.specs.declared.functions.Function.{Function};
 ghost use Rattle.vfa_ir.specs.declared.operations.Operand.{Operand};
 ghost use Rattle.vfa_ir.specs.declared.operations.Ty.{Ty};
 ghost use Rattle.vfa_ir.specs.Defined.{Defined};
 ghost use Rattle.vfa_ir.specs.Printable.{IsPrintable};
 ghost use Rattle.vfa_ir.specs.Typed.{Typed};
+ghost use Rattle.vfa_ir.specs.Walks.{IsReached};
 ghost use Rattle.vfa_mean.specs.Moments.{Place};
 ghost use Rattle.vfa_mean.specs.Refines.{Refines};
 ghost use Rattle.vfa_check.specs.Checked.{IsChecked};
@@ -18,7 +19,7 @@ ghost use Rattle.vfa_rewrite.specs.Alike.{LeaveTheSame};
 ghost use Rattle.vfa_rewrite.specs.ByFacts.{FactTable, findings_of};
 ghost use Rattle.vfa_rewrite.specs.Chains.{IsWalkedTo, becoming};
 ghost use Rattle.vfa_rewrite.specs.Findings.{AreFitting, AreTrue, Findings, IsUsable};
-ghost use Rattle.vfa_rewrite.specs.Marks.{AreMarks, Becomes};
+ghost use Rattle.vfa_rewrite.specs.Marks.{AreMarks, Becomes, Reached};
 ghost use Rattle.vfa_rewrite.specs.Rewriting.{IsRewritten};
 ghost use Rattle.vfa_rewrite.specs.Rewritten.{Marks, rewritten};
 ghost use Rattle.vfa_rewrite.specs.Sizes.{IsLittleLarger};
@@ -87,6 +88,11 @@ pub fn chains_end()
     ensures { (f : Function) (found : Findings) (place : Place) (ty : Ty) (a : Operand) → IsPrintable f → Defined f →
         AreFitting f found → IsWalkedTo f place → IsUsable f place ty a →
         Becomes f found place ty a (becoming f found place ty (length f.values) a) }
+{}
+
+/// Some walk comes to each block that is left, and so to each place in it.
+pub fn left_blocks_are_walked_to()
+    ensures { (f : Function) (found : Findings) (b : ℕ) → Reached f found b → IsReached f b }
 {}
 
 /// What the marks of fitting findings leave of a checked function, numbered in text order, is such as the check accepts: some
