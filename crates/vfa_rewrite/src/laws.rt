@@ -76,7 +76,7 @@ pub fn marks_are_one()
         AreMarks f found m' → LeaveTheSame f m m' }
 {}
 
-/// Rewriting a checked function by a table of facts gives one function.
+/// Rewriting a checked function by a table of facts gives at most one function.
 pub fn one_rewritten()
     ensures { (f : Function) (t : FactTable) (g g' : Function) → IsChecked f → IsPrintable f →
         HasTypedFacts fact_type IsAnyFact f t → IsRewritten f t g → IsRewritten f t g' → g ≡ g' }
