@@ -1,0 +1,10 @@
+//! The table of a function, by rounds.
+#![tactic(auto)]
+
+mod rounds;
+mod solving;
+
+pub use solving::solve;
+
+#[cfg(test)]
+mod tests;
