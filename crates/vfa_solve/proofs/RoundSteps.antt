@@ -119,7 +119,7 @@ module _ {V : Type 0} (answers : Answers V) (f : Function) (l : Layout) (heads n
     }
 
     not_still : SomeMoved f l heads new → IsStill (flow_of answers f l) after.done → ⊥
-    not_still some is = some.1.1 (new_is some.0 ∙ (is some.0 ∙ sym (after.states some.0)))
+    not_still some is = some.2 (new_is some.0 ∙ (is some.0 ∙ sym (after.states some.0)))
 
     pub goes_on : SomeMoved f l heads new → IsAfter answers f l new (min (round + 1) last_round)
     goes_on some = record {

@@ -18,8 +18,8 @@ returns-clause-table g c =
     let answers = g.V.Values.answers in
     let f = c.args.f.now in
     let l = c.in_ok-next.ensures.last.0 in
-    let is = c.in_ok-next.ensures.last.1.0 in
-    let last = c.in_ok-next.ensures.last.1.1 in
+    let is = c.in_ok-next.ensures.last.1 in
+    let last = c.in_ok-next.ensures.last.2 in
     let same = c.as_slice.ensures in
     gives_table answers f l c.in_ok-next.next (kept_entries c.in_ok-passed.passed.table) is last
     (λ b. subst (λ list. kept_entries c.in_ok-passed.passed.table b ≡ pass_table (flow_of answers f l) (kept_in_order l.order list) b) same (c.in_ok-passed.ensures.table l is b))
