@@ -10,7 +10,7 @@ use Rattle.vfa_cfg.specs.Heads.{is_head}
 use Rattle.vfa_cfg.specs.Order.{numbers}
 use Rattle.vfa_cfg.proofs.Members.{false_is_no_truth}
 use Rattle.vfa_values.specs.Answers.{Answers}
-use Rattle.vfa_cond.specs.States.{AbstractState, Stored, known}
+use Rattle.vfa_cond.specs.States.{Stored, known}
 use Rattle.vfa_walk.specs.Analysis.{last_round}
 use Rattle.vfa_walk.specs.Heads.{after_round, AreSame, HasChanged}
 use Rattle.vfa_walk.specs.Joining.{widened}

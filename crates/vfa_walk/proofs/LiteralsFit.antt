@@ -1,6 +1,6 @@
 -- The literals of a printable function are numbers of their widths, so its landmarks are what is gathered, in order.
-use Rattle.std.proofs.Common.{◌≡◌, ◌<◌, ◌^◌, ◌-◌, ◌+◌, ◌||◌, ℕ, zero, suc, Bool, true, false, nat_eq, if◌then◌else◌, Option, Some, None, List, [], ◌∷◌, ◌++◌, map, flat_map, All, Contains, refl, sym, subst, arith, eqb-true, eq-eqb, ◌⊎◌, inl, inr}
-use Rattle.std.specs.Prelude.{slice_get, ⊤}
+use Rattle.std.proofs.Common.{◌≡◌, ◌<◌, ◌^◌, ◌-◌, ℕ, zero, suc, Bool, true, false, nat_eq, if◌then◌else◌, List, [], ◌∷◌, ◌++◌, map, flat_map, Contains, refl, sym, subst, arith, eqb-true, eq-eqb, ◌⊎◌, inl, inr}
+use Rattle.std.specs.Prelude.{slice_get}
 use Rattle.std.specs.List.{AllByRecursion}
 use Rattle.std.specs.List.Sorted.{IsStrictlyIncreasing}
 use Rattle.std.proofs.lemmas.List.Elements.{All-from_recursion, recursion_from_All, All-contains, Contains-append_left, Contains-append_right, Contains-append_cases}
@@ -16,11 +16,11 @@ use Rattle.vfa_ir.specs.declared.functions.Function.{Function}
 use Rattle.vfa_ir.specs.declared.functions.Inst.{Inst}
 use Rattle.vfa_ir.specs.declared.functions.Phi.{Phi}
 use Rattle.vfa_ir.specs.declared.functions.Term.{Term}
-use Rattle.vfa_ir.specs.Operands.{operands_of, arguments_of}
+use Rattle.vfa_ir.specs.Operands.{arguments_of}
 use Rattle.vfa_ir.specs.Printable.{IsPrintable, IsOperand, IsBlock, PrintableArgument, PrintableBlock, PrintableCall, PrintableInst, PrintableOp, PrintablePhi, PrintableTerm}
 use Rattle.vfa_ir.specs.Words.{is_in}
 use Rattle.vfa_word.specs.Numbers.{IsWidth}
-use Rattle.vfa_cfg.proofs.Members.{or_cases, or_left, or_right, in_first, in_rest, first_or_rest}
+use Rattle.vfa_cfg.proofs.Members.{or_cases, or_left, or_right, first_or_rest}
 use Rattle.vfa_walk.specs.Landmarks.{block_literals, ends_of, is_landmark, landmarks, literal_of, literals, op_literals, phi_literals, term_literals, typed_literal}
 use Rattle.vfa_walk.proofs.Rising.{contained_cases, contained_first, contained_rest, filter_is}
 

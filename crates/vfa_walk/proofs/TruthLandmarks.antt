@@ -1,6 +1,6 @@
 -- The landmarks of a width are landmarks as a domain asks for them.
-use Rattle.std.proofs.Common.{◌≡◌, ◌<◌, ◌≤◌, ◌-◌, ◌+◌, ◌^◌, ℕ, zero, suc, Bool, true, false, nat_eq, List, [], ◌∷◌, All, Contains, length, refl, sym, subst, arith, eq-eqb, inl, inr}
-use Rattle.std.specs.List.{range_with_len, filter}
+use Rattle.std.proofs.Common.{◌≡◌, ◌<◌, ◌-◌, ◌^◌, ℕ, true, nat_eq, List, [], ◌∷◌, length, refl, arith, eq-eqb}
+use Rattle.std.specs.List.{range_with_len}
 use Rattle.std.specs.List.Sorted.{IsNonDecreasing}
 use Rattle.std.proofs.lemmas.List.Elements.{All-filter}
 use Rattle.std.proofs.lemmas.List.FromFn.{length-range_with_len, get_or-range_with_len}

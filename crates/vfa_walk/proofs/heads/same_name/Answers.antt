@@ -1,5 +1,4 @@
-use Rattle.std.proofs.Common.{◌≡◌, sym, ◌∙◌, ap}
-use Rattle.vfa_cond.specs.States.{known}
+use Rattle.std.proofs.Common.{sym, ◌∙◌, ap}
 use Rattle.vfa_walk.proofs.HeadsKept.{both_same}
 use Rattle.vfa_walk.proofs.heads.same_name.Goals as goal
 

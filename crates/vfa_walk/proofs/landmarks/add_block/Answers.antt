@@ -1,4 +1,4 @@
-use Rattle.std.proofs.Common.{◌≡◌, ◌++◌, flat_map}
+use Rattle.std.proofs.Common.{◌++◌, flat_map}
 use Rattle.vfa_ir.specs.declared.functions.Inst.{Inst}
 use Rattle.vfa_walk.specs.Landmarks.{phi_literals, op_literals, term_literals}
 use Rattle.vfa_walk.proofs.Marking.{then_more}

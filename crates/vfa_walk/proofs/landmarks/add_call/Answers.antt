@@ -1,4 +1,4 @@
-use Rattle.std.proofs.Common.{◌≡◌, ◌++◌, flat_map, ◌∙◌, ap}
+use Rattle.std.proofs.Common.{◌++◌, flat_map, ◌∙◌, ap}
 use Rattle.vfa_ir.specs.Operands.{arguments_of}
 use Rattle.vfa_walk.specs.Landmarks.{typed_literal}
 use Rattle.vfa_walk.proofs.landmarks.add_call.Goals as goal

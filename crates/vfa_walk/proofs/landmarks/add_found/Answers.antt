@@ -1,4 +1,4 @@
-use Rattle.std.proofs.Common.{◌≡◌, ◌++◌, ◌∙◌, ap}
+use Rattle.std.proofs.Common.{◌++◌, ◌∙◌, ap}
 use Rattle.vfa_walk.proofs.Marking.{arguments_same}
 use Rattle.vfa_walk.proofs.landmarks.add_found.Goals as goal
 

@@ -1,4 +1,4 @@
-use Rattle.std.proofs.Common.{◌≡◌, ◌++◌, ℕ, [], map, nat_eq, if◌then◌else◌, ◌∙◌, ap}
+use Rattle.std.proofs.Common.{◌++◌, ℕ, [], map, nat_eq, if◌then◌else◌, ◌∙◌, ap}
 use Rattle.vfa_ir.specs.declared.operations.BlockId.{BlockId}
 use Rattle.vfa_walk.specs.Landmarks.{literal_of}
 use Rattle.vfa_walk.proofs.Marking.{then_more, cases_same}

@@ -1,6 +1,6 @@
-use Rattle.std.proofs.Common.{◌≡◌, ◌<◌, ◌≤◌, ◌-◌, ◌+◌, ◌^◌, ◌%◌, ◌*◌, ℕ, arith, ◌⊎◌, inl, inr, ap}
+use Rattle.std.proofs.Common.{◌≡◌, ◌<◌, ◌≤◌, ◌-◌, ◌^◌, ℕ, arith, ◌⊎◌, inl, inr, ap}
 use Rattle.std.proofs.lemmas.Bool.{cases_lt}
-use Rattle.std.proofs.lemmas.Nat.{pow_pos, pow_below}
+use Rattle.std.proofs.lemmas.Nat.{pow_below}
 use Rattle.vfa_walk.proofs.marks.half.Goals as goal
 
 at_most : (k : ℕ) → k ≤ 127 → (k < 127) ⊎ (127 ≤ k) → 2 ^ k ≤ 2 ^ 127

@@ -1,4 +1,4 @@
-use Rattle.std.proofs.Common.{◌≡◌, ◌++◌, List, ℕ, [], Contains, sym, ◌∙◌, ap, subst}
+use Rattle.std.proofs.Common.{◌≡◌, ◌++◌, List, ℕ, Contains, sym, ◌∙◌, ap, subst}
 use Rattle.vfa_walk.specs.Landmarks.{ends_of, literals}
 use Rattle.vfa_walk.proofs.LiteralsFit.{landmarks_are}
 use Rattle.vfa_walk.proofs.marks.landmarks.Goals as goal
