@@ -11,7 +11,7 @@ use std::alloc::{AllocError, Global};
 use vfa_check::Checked;
 use vfa_values::Values;
 use vfa_walk::truth::{table_has_shape, table_is_true};
-use vfa_walk::{Table, pass};
+use vfa_walk::{Marks, Table, pass};
 
 /// The table of a function: the entry state of each block, its phis done; none for a block to which no run comes.
 ///
@@ -29,11 +29,14 @@ pub fn solve<V: Values>(alloc: Global, f: &Checked) -> Result<Table<V>, AllocErr
     ensures typed { IfOk result (λ t. HasTypedFacts V.ty V.proper f.now (kept_entries t)) }
     ensures shape { IfOk result (λ t. (l : Layout) → IsLayout f.now l → HasShape V.ty V.proper f.now l (kept_entries t)) }
     ensures states { IfOk result (λ t. AreStates V.ty V.proper f.now t) }
+    ensures count { IfOk result (λ t. length t ≡ length f.now.blocks) }
 {
     was_checked(f);
     table_is_true::<V>();
     table_has_shape::<V>();
-    let next = last_next(alloc, f)?;
+    let order = f.order();
+    let marks = Marks::of(alloc, f)?;
+    let next = last_next(alloc, f, order, &marks)?;
     let passed = pass(alloc, f, next.as_slice())?;
     Ok(passed.table)
 }

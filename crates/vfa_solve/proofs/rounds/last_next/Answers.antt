@@ -1,12 +1,10 @@
 use Rattle.std.proofs.Common.{◌≡◌, ◌≤◌, ◌<◌, ◌+◌, ℕ, Bool, List, Option, min, length, sym, ◌∙◌, ap, subst, arith}
-use Rattle.vfa_cfg.specs.Order.{IsOrder}
 use Rattle.vfa_cond.specs.States.{Stored}
 use Rattle.vfa_walk.specs.Analysis.{Layout, IsLayout, flow_of, last_round}
 use Rattle.vfa_walk.specs.Kept.{AreStates, kept_in_order}
 use Rattle.vfa_walk.specs.Passes.{pass_next}
 use Rattle.vfa_walk.specs.Sending.{layout}
 use Rattle.vfa_walk.proofs.Listed.{none_states}
-use Rattle.vfa_walk.proofs.LoopFree.{scoped, scoped_layout}
 use Rattle.vfa_walk.proofs.Nexts.{same_order}
 use Rattle.vfa_solve.proofs.RoundSteps.{IsAfter, NoneMoved, SomeMoved, begins, ends, goes_on, left_before, less_is_left, made, where_no, where_yes}
 use Rattle.vfa_solve.proofs.rounds.last_next.Goals as goal
@@ -25,36 +23,32 @@ pass-requires-clause-states g c =
 
 pub pass-requires-clause-each : goal.pass-requires-clause-each
 pass-requires-clause-each g c order is =
-    ap length c.as_slice-states.ensures ∙ (c.rounds.invariant.each ∙ ap length (same_order c.args.f.now c.order-order.result.now order c.order-order.ensures.order is))
+    ap length c.as_slice-states.ensures ∙ (c.rounds.invariant.each ∙ ap length (same_order c.args.f.now c.args.order.now order c.requires.layout.1.is_order is))
 
-pub widen_heads-requires-clause-heads : goal.widen_heads-requires-clause-heads
-widen_heads-requires-clause-heads g c =
+pub widen_heads_by-requires-clause-heads : goal.widen_heads_by-requires-clause-heads
+widen_heads_by-requires-clause-heads g c =
     subst (AreStates g.V.Values.ty g.V.Values.proper c.args.f.now) (sym c.as_slice-states.ensures) c.rounds.invariant.states
 
-pub widen_heads-requires-clause-next : goal.widen_heads-requires-clause-next
-widen_heads-requires-clause-next g c =
+pub widen_heads_by-requires-clause-next : goal.widen_heads_by-requires-clause-next
+widen_heads_by-requires-clause-next g c =
     subst (AreStates g.V.Values.ty g.V.Values.proper c.args.f.now) (sym c.as_slice-next.ensures) c.in_ok-passed.ensures.states.1
 
-pub widen_heads-requires-clause-each_head : goal.widen_heads-requires-clause-each_head
-widen_heads-requires-clause-each_head g c order is =
-    ap length c.as_slice-states.ensures ∙ (c.rounds.invariant.each ∙ ap length (same_order c.args.f.now c.order-order.result.now order c.order-order.ensures.order is))
+pub widen_heads_by-requires-clause-each_head : goal.widen_heads_by-requires-clause-each_head
+widen_heads_by-requires-clause-each_head g c order is =
+    ap length c.as_slice-states.ensures ∙ (c.rounds.invariant.each ∙ ap length (same_order c.args.f.now c.args.order.now order c.requires.layout.1.is_order is))
 
-pub widen_heads-requires-clause-each_next : goal.widen_heads-requires-clause-each_next
-widen_heads-requires-clause-each_next g c order is =
+pub widen_heads_by-requires-clause-each_next : goal.widen_heads_by-requires-clause-each_next
+widen_heads_by-requires-clause-each_next g c order is =
     ap length c.as_slice-next.ensures ∙ (c.in_ok-passed.ensures.each ∙ (ap length c.as_slice-states.ensures
-    ∙ (c.rounds.invariant.each ∙ ap length (same_order c.args.f.now c.order-order.result.now order c.order-order.ensures.order is))))
+    ∙ (c.rounds.invariant.each ∙ ap length (same_order c.args.f.now c.args.order.now order c.requires.layout.1.is_order is))))
 
-pub widen_heads-requires-clause-round : goal.widen_heads-requires-clause-round
-widen_heads-requires-clause-round g c = c.rounds.invariant.from_one
+pub widen_heads_by-requires-clause-round : goal.widen_heads_by-requires-clause-round
+widen_heads_by-requires-clause-round g c = c.rounds.invariant.from_one
 
 pub returns-then-not-widened-clause-last : goal.returns-then-not-widened-clause-last
-returns-then-not-widened-clause-last g c =
+returns-then-not-widened-clause-last g c l is =
     let answers = g.V.Values.answers in
     let f = c.args.f.now in
-    let order = c.order-order.result.now in
-    let scopes = c.order-order.ensures.scopes in
-    let l = layout order (scoped order scopes.0) in
-    let is : IsLayout f l = scoped_layout f order scopes.0 c.order-order.ensures.order scopes.1 in
     let heads = c.rounds.heads in
     let next = c.in_ok-passed.passed.next in
     let new = c.in_ok-widened.widened.heads in
@@ -62,22 +56,20 @@ returns-then-not-widened-clause-last g c =
     let makes = subst (λ (list : List (Option (Stored _))). (b : ℕ) → kept_in_order l.order new b ≡ made answers f l c.rounds.round heads list b) c.as_slice-next.ensures
     (subst (λ (list : List (Option (Stored _))). (b : ℕ) → kept_in_order l.order new b ≡ made answers f l c.rounds.round list c.as_slice-next.result.now b) c.as_slice-states.ensures (c.in_ok-widened.ensures.heads l is)) in
     let same = subst (λ (list : List (Option (Stored _))). NoneMoved f l list new) c.as_slice-states.ensures (where_no c.in_ok-widened.widened.changed c.if-not-widened.true (c.in_ok-widened.ensures.changed l is)) in
-    (l, is, ends answers f l heads next new c.rounds.round (c.rounds.invariant.after l is) comes makes same)
+    ends answers f l heads next new c.rounds.round (c.rounds.invariant.after l is) comes makes same
 
 pub returns-then-not-widened-clause-each : goal.returns-then-not-widened-clause-each
-returns-then-not-widened-clause-each g c order is =
-    c.in_ok-passed.ensures.each ∙ (ap length c.as_slice-states.ensures
-    ∙ (c.rounds.invariant.each ∙ ap length (same_order c.args.f.now c.order-order.result.now order c.order-order.ensures.order is)))
+returns-then-not-widened-clause-each g c =
+    c.in_ok-passed.ensures.each ∙ (ap length c.as_slice-states.ensures ∙ c.rounds.invariant.each)
 
 pub rounds-smaller : goal.rounds-smaller
 rounds-smaller g c =
     let v = g.V.Values in
     let laws = g.met.V.Values.lawful in
     let f = c.args.f.now in
-    let order = c.order-order.result.now in
-    let scopes = c.order-order.ensures.scopes in
-    let l = layout order (scoped order scopes.0) in
-    let is : IsLayout f l = scoped_layout f order scopes.0 c.order-order.ensures.order scopes.1 in
+    let order = c.args.order.now in
+    let l = layout order c.requires.layout.0 in
+    let is : IsLayout f l = c.requires.layout.1 in
     let heads = c.rounds.heads in
     let next = c.in_ok-passed.passed.next in
     let new = c.in_ok-widened.widened.heads in

@@ -8,9 +8,9 @@ abbrev pub invariant-rounds : goal.invariant-rounds
 invariant-rounds g l = record {
   after : (y : Layout) → IsLayout l.f y → IsAfter g.V.Values.answers l.f y l.heads l.round;
   states : AreStates g.V.Values.ty g.V.Values.proper l.f l.heads;
-  each : length l.heads ≡ length l.order;
+  each : length l.heads ≡ length l.fn.order;
   from_one : 1 ≤ l.round;
 }
 
 abbrev pub decreases-rounds : goal.decreases-rounds
-decreases-rounds g l = left_before g.V.Values.answers l.f l.order l.heads l.round
+decreases-rounds g l = left_before g.V.Values.answers l.f l.fn.order l.heads l.round
