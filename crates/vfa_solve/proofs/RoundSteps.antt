@@ -1,5 +1,5 @@
 -- The rounds in code: what is kept after some of them, and what one more makes of it.
-use Rattle.std.proofs.Common.{◌≡◌, ◌<◌, ◌+◌, ◌⊎◌, ℕ, suc, Bool, true, false, min, if◌then◌else◌, Option, None, List, All, MatchBool, length, refl, sym, ◌∙◌, ap, subst, arith, inl, inr}
+use Rattle.std.proofs.Common.{◌≡◌, ◌<◌, ◌+◌, ◌⊎◌, ℕ, suc, Bool, true, false, not, min, if◌then◌else◌, Option, None, List, All, MatchBool, length, refl, sym, ◌∙◌, ap, subst, arith, inl, inr}
 use Rattle.std.proofs.lemmas.Bool.{cases_lt}
 use Rattle.vfa_ir.specs.declared.operations.BlockId.{BlockId}
 use Rattle.vfa_ir.specs.declared.operations.Ty.{Ty}
@@ -34,13 +34,13 @@ pub record IsAfter {V : Type 0} (answers : Answers V) (f : Function) (l : Layout
   pub moved : (k : ℕ) → k < done → IsStill (flow_of answers f l) k → ⊥
 
 -- what a test that says yes, and one that says no, tells
-pub where_yes : {A B : Type 0} (c : Bool) → c ≡ true → MatchBool c A B → A
-where_yes true e m = m
-where_yes false e m = absurd cc
+pub where_yes : (A B : Type 0) (c : Bool) → not c ≡ false → MatchBool c A B → A
+where_yes A B true e m = m
+where_yes A B false e m = absurd cc
 
-pub where_no : {A B : Type 0} (c : Bool) → c ≡ false → MatchBool c A B → B
-where_no true e m = absurd cc
-where_no false e m = m
+pub where_no : (A B : Type 0) (c : Bool) → not c ≡ true → MatchBool c A B → B
+where_no A B true e m = absurd cc
+where_no A B false e m = m
 
 -- before the first round
 pub begins : {V : Type 0} (answers : Answers V) (f : Function) (l : Layout) (heads : List (Option (Stored V))) → All (λ e. e ≡ None) heads → IsAfter answers f l heads 1

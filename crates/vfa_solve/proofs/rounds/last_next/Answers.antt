@@ -55,7 +55,7 @@ returns-then-not-widened-clause-last g c l is =
     let comes = subst (λ (list : List (Option (Stored _))). (b : ℕ) → kept_in_order l.order next b ≡ pass_next (flow_of answers f l) (kept_in_order l.order list) b) c.as_slice-states.ensures (c.in_ok-passed.ensures.next l is) in
     let makes = subst (λ (list : List (Option (Stored _))). (b : ℕ) → kept_in_order l.order new b ≡ made answers f l c.rounds.round heads list b) c.as_slice-next.ensures
     (subst (λ (list : List (Option (Stored _))). (b : ℕ) → kept_in_order l.order new b ≡ made answers f l c.rounds.round list c.as_slice-next.result.now b) c.as_slice-states.ensures (c.in_ok-widened.ensures.heads l is)) in
-    let same = subst (λ (list : List (Option (Stored _))). NoneMoved f l list new) c.as_slice-states.ensures (where_no c.in_ok-widened.widened.changed c.if-not-widened.true (c.in_ok-widened.ensures.changed l is)) in
+    let same = subst (λ (list : List (Option (Stored _))). NoneMoved f l list new) c.as_slice-states.ensures (where_no _ _ c.in_ok-widened.widened.changed c.if-not-widened.true (c.in_ok-widened.ensures.changed l is)) in
     ends answers f l heads next new c.rounds.round (c.rounds.invariant.after l is) comes makes same
 
 pub returns-then-not-widened-clause-each : goal.returns-then-not-widened-clause-each
@@ -76,7 +76,7 @@ rounds-smaller g c =
     let comes = subst (λ (list : List (Option (Stored _))). (b : ℕ) → kept_in_order l.order next b ≡ pass_next (flow_of v.answers f l) (kept_in_order l.order list) b) c.as_slice-states.ensures (c.in_ok-passed.ensures.next l is) in
     let makes = subst (λ (list : List (Option (Stored _))). (b : ℕ) → kept_in_order l.order new b ≡ made v.answers f l c.rounds.round heads list b) c.as_slice-next.ensures
     (subst (λ (list : List (Option (Stored _))). (b : ℕ) → kept_in_order l.order new b ≡ made v.answers f l c.rounds.round list c.as_slice-next.result.now b) c.as_slice-states.ensures (c.in_ok-widened.ensures.heads l is)) in
-    let some = subst (λ (list : List (Option (Stored _))). SomeMoved f l list new) c.as_slice-states.ensures (where_yes c.in_ok-widened.widened.changed c.if-not-widened.false (c.in_ok-widened.ensures.changed l is)) in
+    let some = subst (λ (list : List (Option (Stored _))). SomeMoved f l list new) c.as_slice-states.ensures (where_yes _ _ c.in_ok-widened.widened.changed c.if-not-widened.false (c.in_ok-widened.ensures.changed l is)) in
     subst (λ r. left_before v.answers f order new r < left_before v.answers f order heads c.rounds.round) (sym c.round_after-round.ensures)
     (less_is_left v.ty v.proper v.answers laws.typed laws.steady f c.was_checked.ensures.checked c.was_checked.ensures.printable l is heads next new c.rounds.round (c.rounds.invariant.after l is) comes makes some)
 
@@ -91,7 +91,7 @@ rounds-preserved g c = record {
       let comes = subst (λ (list : List (Option (Stored _))). (b : ℕ) → kept_in_order l.order next b ≡ pass_next (flow_of answers f l) (kept_in_order l.order list) b) c.as_slice-states.ensures (c.in_ok-passed.ensures.next l is) in
       let makes = subst (λ (list : List (Option (Stored _))). (b : ℕ) → kept_in_order l.order new b ≡ made answers f l c.rounds.round heads list b) c.as_slice-next.ensures
       (subst (λ (list : List (Option (Stored _))). (b : ℕ) → kept_in_order l.order new b ≡ made answers f l c.rounds.round list c.as_slice-next.result.now b) c.as_slice-states.ensures (c.in_ok-widened.ensures.heads l is)) in
-      let some = subst (λ (list : List (Option (Stored _))). SomeMoved f l list new) c.as_slice-states.ensures (where_yes c.in_ok-widened.widened.changed c.if-not-widened.false (c.in_ok-widened.ensures.changed l is)) in
+      let some = subst (λ (list : List (Option (Stored _))). SomeMoved f l list new) c.as_slice-states.ensures (where_yes _ _ c.in_ok-widened.widened.changed c.if-not-widened.false (c.in_ok-widened.ensures.changed l is)) in
       subst (IsAfter answers f l new) (sym c.round_after-round.ensures) (goes_on answers f l heads next new c.rounds.round (c.rounds.invariant.after l is) comes makes some);
   states = c.in_ok-widened.ensures.states;
   each = c.in_ok-widened.ensures.each ∙ (ap length c.as_slice-states.ensures ∙ c.rounds.invariant.each);
