@@ -1,7 +1,7 @@
 //! Loops, by the rounds that they need.
 
-use crate::tests::{cell, knows, read, table_of};
 use crate::solve;
+use crate::tests::{cell, knows, read, table_of};
 use std::process::Abort;
 use std::test::Fail;
 use vfa_fact::Parts;
@@ -38,7 +38,10 @@ fn before_its_phis_a_head_knows_the_next_count(rt: HostRuntime) {
     let f = read(rt.alloc(), COUNT).expect(&rt, "a function");
     let table: Table<AnyFact> = solve(rt.alloc(), &f).expect(&rt, "memory");
     let pair = pair_state(rt.alloc(), &f, &table, BlockId(2), BlockId(1)).expect(&rt, "memory");
-    let fact = pair.expect(&rt, "a state").fact(ValueId(2)).expect(&rt, "a fact");
+    let fact = pair
+        .expect(&rt, "a state")
+        .fact(ValueId(2))
+        .expect(&rt, "a fact");
     let Parts::One(cell) = fact.parts else {
         return;
     };
