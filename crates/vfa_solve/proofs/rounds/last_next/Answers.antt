@@ -1,6 +1,6 @@
-use Rattle.std.proofs.Common.{◌≡◌, ◌≤◌, ◌<◌, ◌+◌, ℕ, Bool, List, Option, min, length, sym, ◌∙◌, ap, subst, arith}
+use Rattle.std.proofs.Common.{◌≡◌, ◌<◌, ℕ, List, Option, length, sym, ◌∙◌, ap, subst, arith}
 use Rattle.vfa_cond.specs.States.{Stored}
-use Rattle.vfa_walk.specs.Analysis.{Layout, IsLayout, flow_of, last_round}
+use Rattle.vfa_walk.specs.Analysis.{IsLayout, flow_of}
 use Rattle.vfa_walk.specs.Kept.{AreStates, kept_in_order}
 use Rattle.vfa_walk.specs.Passes.{pass_next}
 use Rattle.vfa_walk.specs.Sending.{layout}
