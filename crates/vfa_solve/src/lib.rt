@@ -5,6 +5,3 @@ mod rounds;
 mod solving;
 
 pub use solving::solve;
-
-#[cfg(test)]
-mod tests;
