@@ -10,7 +10,7 @@ none_some x e = cc
 
 -- the input of a job that reads the source is what the source has left
 pub left_of : (job : Job) (source : SourceState) (input : List ℕ) → IsInputOf job source input → source.left ≡ Some input
-left_of Job.Opt source input is = is
+left_of job source input is = is
 
 -- a source that gave at most a number of bytes did not give more
 pub not_more : (before now : Option (List ℕ)) (input : List ℕ) (n : ℕ) → before ≡ Some input → Gave before now (λ given. length given ≤ n) →

@@ -493,6 +493,9 @@ strict_itself false = refl
 
 job_same : (a b : Job) → job_word a ≡ job_word b → b ≡ a
 job_same Job.Opt Job.Opt e = refl
+job_same Job.Opt Job.Facts e = cc
+job_same Job.Facts Job.Opt e = cc
+job_same Job.Facts Job.Facts e = refl
 
 workers_same : (workers : Option ℕ) (n : ℕ) → TakesWorkers workers [] n → n ≡ unwrap_or workers 1
 workers_same None n t = t

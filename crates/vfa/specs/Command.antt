@@ -14,6 +14,7 @@ texts = map (λ (word : String Global). string_bytes word)
 
 abbrev pub job_word : Job → List ℕ
 job_word Job.Opt = codes "opt"
+job_word Job.Facts = codes "facts"
 
 -- ---- options and other words
 
@@ -123,13 +124,13 @@ pub record AreCommand (words : List (List ℕ)) (command : Command) : Type 0 whe
 abbrev pub HasWorkers : Command → Type 0
 HasWorkers command = (1 ≤ command.workers) × (command.workers ≤ most_workers)
 
--- What a job works on. `opt`: the bytes that the source has left, where it tells them.
+-- What a job works on: the bytes that the source has left, where it tells them.
 abbrev pub IsInputOf : Job → SourceState → List ℕ → Type 0
-IsInputOf Job.Opt source input = source.left ≡ Some input
+IsInputOf job source input = source.left ≡ Some input
 
 -- what a job reads: all that the source has left
 abbrev pub IsReadBy : Job → Change SourceState → Type 0
-IsReadBy Job.Opt source = source.now.left ≡ Some []
+IsReadBy job source = source.now.left ≡ Some []
 
 -- the words ask for the command, and it works on this input
 pub record Asks (words : List (List ℕ)) (source : SourceState) (command : Command) (input : List ℕ) : Type 0 where

@@ -6,7 +6,7 @@ use Rattle.vfa_print.specs.Layout.{line_feed}
 use Rattle.vfa.specs.declared.command.Command.{Command}
 use Rattle.vfa.specs.declared.refusals.Refusal.{Refusal}
 use Rattle.vfa_opt.specs.Module.{Piece, IsModule, IsModuleText}
-use Rattle.vfa_opt.specs.Refined.{IsRefined}
+use Rattle.vfa_opt.specs.Sound.{IsSoundPiece}
 use Rattle.vfa.specs.Refusals.{most, refusal_text}
 use Rattle.vfa.specs.Stops.{IsRefusedFor}
 
@@ -27,11 +27,12 @@ Reports err message = Got err message ⊎ (SinkFailed err × GotPrefix err.befor
 -- ---- answers
 
 -- The command's text of the input's module and the notes on it. What `opt` writes for an accepted function reads as a
--- function which refines it.
+-- function which refines it. What `facts` writes for one is the report by its table, each line of which holds whenever a run of
+-- the function comes to the line's place.
 pub record IsAnswer (command : Command) (input text notes : List ℕ) : Type 0 where
   pub within : length input ≤ most
   pub is : IsModuleText command.job command.strict input text notes
-  pub refined : (pieces : List Piece) → IsModule command.strict input pieces → All (IsRefined command.job) pieces
+  pub sound : (pieces : List Piece) → IsModule command.strict input pieces → All (IsSoundPiece command.job) pieces
 
 -- ---- ends
 

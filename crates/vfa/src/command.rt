@@ -1,11 +1,12 @@
 //! The words of a command.
 
 ghost use Rattle.std.specs.Prelude.{◌≡◌, ◌↔◌, ℕ, [], Some, None, true, IfSome, codes};
+ghost use Rattle.vfa_opt.specs.declared.jobs.Job.{Job as JobOf};
 ghost use Rattle.vfa.specs.declared.command.Expects.{Expects};
 ghost use Rattle.vfa.specs.declared.command.Expects.TheVariants.{AnyWord};
 ghost use Rattle.vfa.specs.declared.command.Command.{Command as Whole};
 ghost use Rattle.vfa.specs.Asked.{Complete, IsNext, TakesJob, GainsWorkers, GainsStrict, AwaitsWorkers, GainsName, LacksName};
-ghost use Rattle.vfa.specs.Command.{texts, is_option as begins_as_option, workers_name, IsWorkers, AreCommand};
+ghost use Rattle.vfa.specs.Command.{texts, job_word, is_option as begins_as_option, workers_name, IsWorkers, AreCommand};
 
 use vfa_opt::Job;
 
@@ -83,6 +84,20 @@ fn workers_of(digits: &str) -> Option<u32>
     Some(number as u32)
 }
 
+/// The job of this name.
+fn job_of(word: &str) -> Option<Job>
+    ensures named { IfSome result (λ job. word.now ≡ job_word job) }
+    ensures only { result ≡ None → (job : JobOf) → word.now ≡ job_word job → ⊥ }
+{
+    if word == "opt" {
+        return Some(Job::Opt);
+    }
+    if word == "facts" {
+        return Some(Job::Facts);
+    }
+    None
+}
+
 /// With a word that is no option.
 fn with_job(asked: Asked, word: &str) -> Option<Asked>
     ensures { TakesJob asked word.now result }
@@ -90,11 +105,9 @@ fn with_job(asked: Asked, word: &str) -> Option<Asked>
     if asked.job.is_some() {
         return None;
     }
-    if word != "opt" {
-        return None;
-    }
+    let job = job_of(word)?;
     Some(Asked {
-        job: Some(Job::Opt),
+        job: Some(job),
         ..asked
     })
 }
@@ -244,7 +257,7 @@ fn whole(asked: Asked) -> Option<Command>
 
 /// The command that these words ask for, the words after the name of the program; None where they ask for none.
 ///
-/// The job `opt` stands alone among the words that are no options. `--strict` and `--workers`, with a number from 1 to 64 as the
+/// A job, `opt` or `facts`, stands alone among the words that are no options. `--strict` and `--workers`, with a number from 1 to 64 as the
 /// next word or after `=`, stand at most once each. Behind `--` no word is an option.
 pub fn command_of(words: &[String]) -> Option<Command>
     ensures asked { IfSome result (AreCommand (texts words.now)) }

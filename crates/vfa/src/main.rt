@@ -1,4 +1,4 @@
-//! An optimiser for the integer part of LLVM's textual IR.
+//! An analyser and optimiser for the integer part of LLVM's textual IR.
 #![tactic(auto)]
 
 mod command;

@@ -6,7 +6,9 @@ mod faults;
 mod limits;
 mod printed;
 mod refused;
+mod reports;
 mod strict;
+mod words;
 mod workers;
 
 use crate::run::vfa_run;

@@ -11,7 +11,8 @@ use Rattle.vfa_opt.specs.declared.jobs.Job.{Job}
 use Rattle.vfa_opt.specs.declared.refusals.Refused.{Refused}
 use Rattle.vfa_opt.specs.declared.work.Carried.{Carried}
 use Rattle.vfa_opt.specs.Acceptance.{IsInside, IsOutside, in_module}
-use Rattle.vfa_opt.specs.Module.{Piece, copied, accepted, carried, IsDefinePiece, IsPiece, ArePieces, IsPrinted, IsPieceText, AreTexts, notes_of, function_names, carried_functions, Splits, IsModule, IsModuleText}
+use Rattle.vfa_report.specs.Report.{IsReport}
+use Rattle.vfa_opt.specs.Module.{Piece, copied, accepted, carried, IsDefinePiece, IsPiece, ArePieces, IsPrinted, IsFunctionText, IsPieceText, AreTexts, notes_of, function_names, carried_functions, Splits, IsModule, IsModuleText}
 use Rattle.vfa_opt.specs.Refusals.{IsRefusal}
 
 -- ---- a split never answers that memory ran out
@@ -192,19 +193,26 @@ module _ (function : OneFunction) (reason : OneReason) (none : NoReason) where
 abbrev pub OneList : Type 0
 OneList = (input : List ℕ) (ps qs : List Piece) → Splits input ps → Splits input qs → ps ≡ qs
 
-module _ (one : OneList) where
-  -- ---- at most one text
+-- ---- at most one text
 
+abbrev OneReport : Type 0
+OneReport = (f : Function) (s t : List ℕ) → IsReport f s → IsReport f t → s ≡ t
+
+module _ (one : OneList) (report : OneReport) where
   one_printed : (f : Function) (s t : List ℕ) → IsPrinted f s → IsPrinted f t → s ≡ t
   one_printed f s t (inl p) (inl q) = p.1 ∙ sym q.1
   one_printed f s t (inl p) (inr q) = absurd (q.0 p.0)
   one_printed f s t (inr p) (inl q) = absurd (p.0 q.0)
   one_printed f s t (inr p) (inr q) = p.1 ∙ sym q.1
 
+  one_function_text : (job : Job) (f : Function) (s t : List ℕ) → IsFunctionText job f s → IsFunctionText job f t → s ≡ t
+  one_function_text Job.Opt f s t p q = one_printed f s t p q
+  one_function_text Job.Facts f s t p q = report f s t p q
+
   one_piece_text : (job : Job) (piece : Piece) (s t : List ℕ) → IsPieceText job piece s → IsPieceText job piece t → s ≡ t
-  one_piece_text Job.Opt (copied bytes) s t p q = p ∙ sym q
-  one_piece_text Job.Opt (accepted f) s t p q = one_printed f s t p q
-  one_piece_text Job.Opt (carried bytes e) s t p q = p ∙ sym q
+  one_piece_text job (copied bytes) s t p q = p ∙ sym q
+  one_piece_text job (accepted f) s t p q = one_function_text job f s t p q
+  one_piece_text job (carried bytes e) s t p q = p ∙ sym q
 
   one_text_of : (job : Job) (pieces : List Piece) (s t : List ℕ) → AreTexts job pieces s → AreTexts job pieces t → s ≡ t
   one_text_of job [] s t p q = p ∙ sym q
@@ -220,8 +228,9 @@ module _ (one : OneList) where
         p.notes_are ∙ ap notes_of same ∙ sym q.notes_are,
       )
 
-  -- ---- at most one refusal
+-- ---- at most one refusal
 
+module _ (one : OneList) where
   -- a split that is of some pieces
   split_no_fault : (input : List ℕ) (pieces : List Piece) (f : SplitFault) → Splits input pieces → split_of input ≡ Err f → ⊥
   split_no_fault input pieces f s e = ok_err s.items f (sym s.split ∙ e)

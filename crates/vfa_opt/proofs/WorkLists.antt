@@ -15,7 +15,7 @@ use Rattle.vfa_opt.specs.declared.refusals.Refused.{Refused}
 use Rattle.vfa_opt.specs.declared.work.Worked.{Worked}
 use Rattle.vfa_opt.specs.Module.{Piece, ArePieces, AreTexts, piece_name, piece_carried, piece_note, function_names, carried_functions, notes_of, Splits, IsModule, IsModuleText}
 use Rattle.vfa_opt.specs.Refusals.{IsRefusal}
-use Rattle.vfa_opt.specs.Refined.{IsRefined}
+use Rattle.vfa_opt.specs.Sound.{IsSoundPiece}
 use Rattle.vfa_opt.specs.Works.{IsPlaced, IsWorked, AreWorked, IsRefusedFor, IsWithin, worked_text, texts_in, notes_in, names_in, carried_in}
 use Rattle.vfa_opt.proofs.ReasonLines.{feeds_few}
 
@@ -62,8 +62,8 @@ within_all job input (i ∷ items) (w ∷ all) are = (are.0.work.within, within_
 pub record PiecesOf (job : Job) (input : List ℕ) (items : List Item) (all : List Worked) : Type 0 where
   pub pieces : List Piece
   pub are : ArePieces input items pieces
-  pub texts : AreTexts job pieces (texts_in input all)
-  pub refined : AllByRecursion (IsRefined job) pieces
+  pub texts : AreTexts job pieces (texts_in job input all)
+  pub sound : AllByRecursion (IsSoundPiece job) pieces
   pub notes : notes_in all ≡ notes_of pieces
   pub names : names_in all ≡ function_names pieces
   pub carried : carried_in all ≡ carried_functions pieces
@@ -73,15 +73,15 @@ one_more : (job : Job) (input : List ℕ) (item : Item) (items : List Item) (wor
 one_more job input item items worked all one rest = record {
   pieces = one.piece ∷ rest.pieces;
   are = (one.is, rest.are);
-  texts = (worked_text input worked, texts_in input all, one.work.text, rest.texts, refl);
-  refined = (one.work.refined, rest.refined);
+  texts = (worked_text job input worked, texts_in job input all, one.work.text, rest.texts, refl);
+  sound = (one.work.sound, rest.sound);
   notes = ap (λ n. n ++ notes_in all) one.work.note ∙ ap (λ n. piece_note one.piece ++ n) rest.notes;
   names = ap (λ n. cons_option n (names_in all)) one.work.name ∙ ap (cons_option (piece_name one.piece)) rest.names;
   carried = ap (λ n. cons_option n (carried_in all)) one.work.carried ∙ ap (cons_option (piece_carried one.piece)) rest.carried;
 }
 
 pub pieces_of : (job : Job) (input : List ℕ) (items : List Item) (all : List Worked) → AreWorked job input items all → PiecesOf job input items all
-pieces_of job input [] [] are = record { pieces = []; are = tt; texts = refl; refined = tt; notes = refl; names = refl; carried = refl }
+pieces_of job input [] [] are = record { pieces = []; are = tt; texts = refl; sound = tt; notes = refl; names = refl; carried = refl }
 pieces_of job input [] (w ∷ all) are = absurd are
 pieces_of job input (i ∷ items) [] are = absurd are
 pieces_of job input (i ∷ items) (w ∷ all) are = one_more job input i items w all are.0 (pieces_of job input items all are.1)
@@ -102,7 +102,7 @@ module _ (job : Job) (strict : Bool) (input : List ℕ) (items : List Item) (all
     whole = λ is. sym found.carried ∙ whole is;
   }
 
-  pub text_so : (out notes : List ℕ) → out ≡ texts_in input all → notes ≡ notes_in all → first_repeated [] (names_in all) ≡ None →
+  pub text_so : (out notes : List ℕ) → out ≡ texts_in job input all → notes ≡ notes_in all → first_repeated [] (names_in all) ≡ None →
       (strict ≡ true → carried_in all ≡ []) → IsModuleText job strict input out notes
   text_so out notes out_is notes_is distinct whole = record {
     pieces = found.pieces;
@@ -111,10 +111,10 @@ module _ (job : Job) (strict : Bool) (input : List ℕ) (items : List Item) (all
     notes_are = notes_is ∙ found.notes;
   }
 
-  pub refined_so : first_repeated [] (names_in all) ≡ None → (strict ≡ true → carried_in all ≡ []) →
-      (pieces : List Piece) × IsModule strict input pieces × All (IsRefined job) pieces
-  refined_so distinct whole =
-      (found.pieces, module_so distinct whole, All-from_recursion (IsRefined job) found.pieces found.refined)
+  pub sound_so : first_repeated [] (names_in all) ≡ None → (strict ≡ true → carried_in all ≡ []) →
+      (pieces : List Piece) × IsModule strict input pieces × All (IsSoundPiece job) pieces
+  sound_so distinct whole =
+      (found.pieces, module_so distinct whole, All-from_recursion (IsSoundPiece job) found.pieces found.sound)
 
   refusal_so : (e : Refused) → IsRefusedFor strict all e → IsRefusal strict input e
   refusal_so (Refused.Unclosed start) is = absurd is
@@ -137,16 +137,16 @@ module _ (job : Job) (strict : Bool) (input : List ℕ) (items : List Item) (all
   refused_so e (inl memory) = inl memory
   refused_so e (inr is) = inr (refusal_so e is)
 
-  pub text_in : (r : Result Text Refused) → IfOk r (λ text. text.out.items ≡ texts_in input all) → IfOk r (λ text. text.notes.items ≡ notes_in all) →
+  pub text_in : (r : Result Text Refused) → IfOk r (λ text. text.out.items ≡ texts_in job input all) → IfOk r (λ text. text.notes.items ≡ notes_in all) →
       OnOk r (first_repeated [] (names_in all) ≡ None) → OnOk r (strict ≡ true → carried_in all ≡ []) →
       IfOk r (λ text. IsModuleText job strict input text.out.items text.notes.items)
   text_in (Ok text) out notes distinct whole = text_so text.out.items text.notes.items out notes distinct whole
   text_in (Err e) out notes distinct whole = tt
 
-  pub refined_in : (r : Result Text Refused) → OnOk r (first_repeated [] (names_in all) ≡ None) →
-      OnOk r (strict ≡ true → carried_in all ≡ []) → OnOk r ((pieces : List Piece) × IsModule strict input pieces × All (IsRefined job) pieces)
-  refined_in (Ok text) distinct whole = refined_so distinct whole
-  refined_in (Err e) distinct whole = tt
+  pub sound_in : (r : Result Text Refused) → OnOk r (first_repeated [] (names_in all) ≡ None) →
+      OnOk r (strict ≡ true → carried_in all ≡ []) → OnOk r ((pieces : List Piece) × IsModule strict input pieces × All (IsSoundPiece job) pieces)
+  sound_in (Ok text) distinct whole = sound_so distinct whole
+  sound_in (Err e) distinct whole = tt
 
   pub refused_in : (r : Result Text Refused) → IfErr r (λ e. (e ≡ Refused.Memory) ⊎ IsRefusedFor strict all e) →
       IfErr r (λ e. (e ≡ Refused.Memory) ⊎ IsRefusal strict input e)
@@ -156,11 +156,11 @@ module _ (job : Job) (strict : Bool) (input : List ℕ) (items : List Item) (all
 -- ---- answers
 
 module _ (job : Job) (strict : Bool) (input : List ℕ) where
-  pub refined_each : ((ps qs : List Piece) → Splits input ps → Splits input qs → ps ≡ qs) → (r : Result Text Refused) →
-      OnOk r ((pieces : List Piece) × IsModule strict input pieces × All (IsRefined job) pieces) →
-      OnOk r ((pieces : List Piece) → IsModule strict input pieces → All (IsRefined job) pieces)
-  refined_each one (Ok text) is = λ pieces m. subst (λ ps. All (IsRefined job) ps) (one is.0 pieces is.1.splits m.splits) is.2
-  refined_each one (Err e) is = tt
+  pub sound_each : ((ps qs : List Piece) → Splits input ps → Splits input qs → ps ≡ qs) → (r : Result Text Refused) →
+      OnOk r ((pieces : List Piece) × IsModule strict input pieces × All (IsSoundPiece job) pieces) →
+      OnOk r ((pieces : List Piece) → IsModule strict input pieces → All (IsSoundPiece job) pieces)
+  sound_each one (Ok text) is = λ pieces m. subst (λ ps. All (IsSoundPiece job) ps) (one is.0 pieces is.1.splits m.splits) is.2
+  sound_each one (Err e) is = tt
 
   memory_for : (pieces : List Piece) → IsModule strict input pieces → ((reason : Refused) → IsModule strict input pieces → IsRefusal strict input reason → ⊥) →
       (e : Refused) → (e ≡ Refused.Memory) ⊎ IsRefusal strict input e → e ≡ Refused.Memory

@@ -7,7 +7,7 @@ pub mod Marks
 pub mod Meaning
 pub mod Module
 pub mod Outcomes
-pub mod Refined
 pub mod Refines
 pub mod Refusals
+pub mod Sound
 pub mod Works

@@ -12,6 +12,7 @@ use Rattle.vfa_module.specs.declared.items.Item.{Item}
 use Rattle.vfa_module.specs.Split.{split_of}
 use Rattle.vfa_print.specs.Layout.{name_text, line_feed}
 use Rattle.vfa_print.specs.Trees.{function_text}
+use Rattle.vfa_report.specs.Report.{IsReport}
 use Rattle.vfa_opt.specs.declared.jobs.Job.{Job}
 use Rattle.vfa_opt.specs.declared.work.Carried.{Carried}
 use Rattle.vfa_opt.specs.Acceptance.{IsInside, StaysFor}
@@ -44,11 +45,21 @@ ArePieces input _ _ = ⊥
 abbrev pub IsPrinted : Function → List ℕ → Type 0
 IsPrinted f text = (IsFirst f × (text ≡ function_text (folded f))) ⊎ ((IsFirst f → ⊥) × (text ≡ function_text f))
 
+-- What a job writes for an accepted function. `facts`: the report by the function's table.
+abbrev pub IsFunctionText : Job → Function → List ℕ → Type 0
+IsFunctionText Job.Opt = IsPrinted
+IsFunctionText Job.Facts = IsReport
+
+-- what a job writes for all other bytes: `opt` copies them, and `facts` leaves them out
+abbrev pub kept_bytes : Job → List ℕ → List ℕ
+kept_bytes Job.Opt bytes = bytes
+kept_bytes Job.Facts bytes = []
+
 -- what a job writes for a piece
 abbrev pub IsPieceText : Job → Piece → List ℕ → Type 0
-IsPieceText Job.Opt (copied bytes) text = text ≡ bytes
-IsPieceText Job.Opt (accepted f) text = IsPrinted f text
-IsPieceText Job.Opt (carried bytes _) text = text ≡ bytes
+IsPieceText job (copied bytes) text = text ≡ kept_bytes job bytes
+IsPieceText job (accepted f) text = IsFunctionText job f text
+IsPieceText job (carried bytes _) text = text ≡ kept_bytes job bytes
 
 abbrev pub AreTexts : Job → List Piece → List ℕ → Type 0
 AreTexts job [] text = text ≡ []

@@ -7,8 +7,8 @@ use Rattle.vfa_opt.specs.declared.jobs.Job.{Job}
 use Rattle.vfa_opt.specs.declared.refusals.Refused.{Refused}
 use Rattle.vfa_opt.specs.declared.work.Carried.{Carried}
 use Rattle.vfa_opt.specs.declared.work.Worked.{Worked}
-use Rattle.vfa_opt.specs.Module.{Piece, IsPiece, IsPieceText, note_text, piece_name, piece_carried, piece_note}
-use Rattle.vfa_opt.specs.Refined.{IsRefined}
+use Rattle.vfa_opt.specs.Module.{Piece, IsPiece, IsPieceText, kept_bytes, note_text, piece_name, piece_carried, piece_note}
+use Rattle.vfa_opt.specs.Sound.{IsSoundPiece}
 
 -- offsets in order within a text
 pub record IsRange (input : List ℕ) (start end : ℕ) : Type 0 where
@@ -20,11 +20,11 @@ abbrev pub IsPlaced : List ℕ → Item → Type 0
 IsPlaced input (Item.Lines start end) = IsRange input start end
 IsPlaced input (Item.Define start end line) = IsRange input start end × (line ≤ length input + 1)
 
--- the text of what was made of an item
-abbrev pub worked_text : List ℕ → Worked → List ℕ
-worked_text input (Worked.Copied start end) = slice_range input start end
-worked_text input (Worked.Printed text name) = text.items
-worked_text input (Worked.Carried start end function) = slice_range input start end
+-- what a job writes where this was made of an item
+abbrev pub worked_text : Job → List ℕ → Worked → List ℕ
+worked_text job input (Worked.Copied start end) = kept_bytes job (slice_range input start end)
+worked_text job input (Worked.Printed text name) = text.items
+worked_text job input (Worked.Carried start end function) = kept_bytes job (slice_range input start end)
 
 -- the note on it
 abbrev pub worked_note : Worked → List ℕ
@@ -53,8 +53,8 @@ IsWithin input (Worked.Carried start end function) = IsRange input start end
 -- What a job makes of a piece: its text, the note, the name where it is an accepted function, and the function with its
 -- reason where it stays as it is.
 pub record IsWorkOn (job : Job) (input : List ℕ) (piece : Piece) (worked : Worked) : Type 0 where
-  pub text : IsPieceText job piece (worked_text input worked)
-  pub refined : IsRefined job piece
+  pub text : IsPieceText job piece (worked_text job input worked)
+  pub sound : IsSoundPiece job piece
   pub note : worked_note worked ≡ piece_note piece
   pub name : worked_name worked ≡ piece_name piece
   pub carried : worked_carried worked ≡ piece_carried piece
@@ -71,8 +71,8 @@ abbrev pub AreWorked : Job → List ℕ → List Item → List Worked → Type 0
 AreWorked job input items all = AllZip (IsWorked job input) items all
 
 -- the texts, the notes, the names of accepted functions and the functions that stay, in order
-abbrev pub texts_in : List ℕ → List Worked → List ℕ
-texts_in input = flat_map (worked_text input)
+abbrev pub texts_in : Job → List ℕ → List Worked → List ℕ
+texts_in job input = flat_map (worked_text job input)
 
 abbrev pub notes_in : List Worked → List ℕ
 notes_in = flat_map worked_note

@@ -5,4 +5,6 @@
 pub enum Job {
     /// The module with the constants of its functions folded.
     Opt,
+    /// What is known of the names of its functions: a report on each.
+    Facts,
 }

@@ -5,8 +5,10 @@ ghost use Rattle.std.specs.List.{AllByRecursion};
 ghost use Rattle.vfa_ir.specs.DefinedNames.{first_repeated};
 ghost use Rattle.vfa_opt.specs.declared.refusals.Refused.TheVariants.{Memory};
 ghost use Rattle.vfa_opt.specs.declared.work.Carried.{Carried};
+ghost use Rattle.vfa_opt.specs.Module.{kept_bytes};
 ghost use Rattle.vfa_opt.specs.Works.{IsWithin, worked_text, worked_note, worked_carried, texts_in, notes_in, names_in, carried_in, IsRefusedFor};
 
+use crate::jobs::Job;
 use crate::names::repeated_name;
 use crate::notes::push_note;
 use crate::refusals::Refused;
@@ -22,15 +24,25 @@ pub struct Text {
     pub notes: Vec<u8>,
 }
 
-/// Puts the text last that was made of an item.
-fn push_text(out: &mut Vec<u8>, bytes: &[u8], worked: &Worked) -> Result<(), AllocError>
+/// Puts what the job keeps of bytes last.
+fn push_kept(job: &Job, out: &mut Vec<u8>, bytes: &[u8]) -> Result<(), AllocError>
+    ensures { OnOk result (out.new.items ≡ out.old.items ++ kept_bytes job.now bytes.now) }
+{
+    match job {
+        Job::Opt => out.extend_from_slice(bytes),
+        Job::Facts => Ok(()),
+    }
+}
+
+/// Puts what the job writes for an item last.
+fn push_text(job: &Job, out: &mut Vec<u8>, bytes: &[u8], worked: &Worked) -> Result<(), AllocError>
     requires { IsWithin bytes.now worked.now }
-    ensures { OnOk result (out.new.items ≡ out.old.items ++ worked_text bytes.now worked.now) }
+    ensures { OnOk result (out.new.items ≡ out.old.items ++ worked_text job.now bytes.now worked.now) }
 {
     match worked {
-        Worked::Copied { start, end } => out.extend_from_slice(&bytes[*start..*end]),
+        Worked::Copied { start, end } => push_kept(job, out, &bytes[*start..*end]),
         Worked::Printed { text, .. } => out.extend_from_slice(text),
-        Worked::Carried { start, end, .. } => out.extend_from_slice(&bytes[*start..*end]),
+        Worked::Carried { start, end, .. } => push_kept(job, out, &bytes[*start..*end]),
     }
 }
 
@@ -45,15 +57,15 @@ fn push_note_on(alloc: Global, notes: &mut Vec<u8>, worked: &Worked) -> Result<(
 }
 
 /// The texts and the notes.
-fn text_of(alloc: Global, bytes: &[u8], all: &[Worked]) -> Result<Text, AllocError>
+fn text_of(alloc: Global, job: &Job, bytes: &[u8], all: &[Worked]) -> Result<Text, AllocError>
     requires { AllByRecursion (IsWithin bytes.now) all.now }
-    ensures out { IfOk result (λ text. text.out.items ≡ texts_in bytes.now all.now) }
+    ensures out { IfOk result (λ text. text.out.items ≡ texts_in job.now bytes.now all.now) }
     ensures notes { IfOk result (λ text. text.notes.items ≡ notes_in all.now) }
 {
     let mut out = Vec::new(alloc);
     let mut notes = Vec::new(alloc);
     'works: for worked in all {
-        push_text(&mut out, bytes, worked)?;
+        push_text(job, &mut out, bytes, worked)?;
         push_note_on(alloc, &mut notes, worked)?;
     }
     Ok(Text { out, notes })
@@ -83,13 +95,19 @@ fn first_carried(all: Vec<Worked>) -> Option<Carried>
     None
 }
 
-/// The text and the notes of a module of whose items these are the works; or why it is refused.
+/// The job's text of a module of whose items these are the works, and the notes; or why it is refused.
 ///
 /// `DuplicateFunction` comes exactly where two accepted functions have one name, for the first that stands a second time;
 /// `Strict` exactly where none have, a function stays as it is and `strict` holds, for the first.
-pub fn joined(alloc: Global, strict: bool, bytes: &[u8], all: Vec<Worked>) -> Result<Text, Refused>
+pub fn joined(
+    alloc: Global,
+    job: &Job,
+    strict: bool,
+    bytes: &[u8],
+    all: Vec<Worked>,
+) -> Result<Text, Refused>
     requires { AllByRecursion (IsWithin bytes.now) all.items }
-    ensures out { IfOk result (λ text. text.out.items ≡ texts_in bytes.now all.items) }
+    ensures out { IfOk result (λ text. text.out.items ≡ texts_in job.now bytes.now all.items) }
     ensures notes { IfOk result (λ text. text.notes.items ≡ notes_in all.items) }
     ensures distinct { OnOk result (first_repeated [] (names_in all.items) ≡ None) }
     ensures whole { OnOk result (strict ≡ true → carried_in all.items ≡ []) }
@@ -98,7 +116,7 @@ pub fn joined(alloc: Global, strict: bool, bytes: &[u8], all: Vec<Worked>) -> Re
     if let Some(name) = repeated_name(alloc, &all)? {
         return Err(Refused::DuplicateFunction(name));
     }
-    let text = text_of(alloc, bytes, &all)?;
+    let text = text_of(alloc, job, bytes, &all)?;
     if strict {
         if let Some(function) = first_carried(all) {
             return Err(Refused::Strict(function.name, function.reason));

@@ -7,6 +7,7 @@ ghost use Rattle.vfa_opt.specs.Module.{Piece, Splits, IsModule, IsModuleText};
 ghost use Rattle.vfa_opt.specs.Refusals.{IsRefusal};
 
 use crate::acceptance::{inside_or_outside, one_answer};
+use vfa_report::one_report;
 
 /// An input has at most one list of pieces.
 pub fn one_list_of_pieces()
@@ -32,10 +33,11 @@ pub fn one_refusal()
     one_list_of_pieces();
 }
 
-/// An input has at most one text, and at most one list of notes.
+/// An input has at most one text for a job, and at most one list of notes.
 pub fn one_text()
     ensures { (job : Job) (strict : Bool) (input text other notes others : List ℕ) → IsModuleText job strict input text notes →
         IsModuleText job strict input other others → (text ≡ other) × (notes ≡ others) }
 {
     one_list_of_pieces();
+    one_report();
 }

@@ -1,5 +1,5 @@
-//! The work on modules: from a module's text to the text with its functions optimised, and the notes on those that stay as
-//! they are.
+//! The work on modules: from a module's text to the text with its functions optimised, or to the reports on its functions,
+//! and the notes on those that stay as they are.
 #![tactic(auto)]
 
 mod acceptance;
@@ -16,6 +16,7 @@ mod names;
 mod notes;
 mod printed;
 mod refusals;
+mod reported;
 mod work;
 
 pub use jobs::Job;

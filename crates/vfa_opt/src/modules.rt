@@ -1,11 +1,10 @@
-//! Whole modules: each function of the profile is printed, with its constants folded where it is of one block of bitwise
-//! operations, and all other bytes stay as they are.
+//! Whole modules: what a job writes for each function of the profile, and for all other bytes.
 
 ghost use Rattle.std.specs.Prelude.{◌≡◌, ◌≤◌, ◌⊎◌, ◌^◌, Bool, List, length, All, Ok, OnOk, IfOk, IfErr};
 ghost use Rattle.std.specs.List.{AllByRecursion};
 ghost use Rattle.vfa_module.specs.Split.{split_of};
 ghost use Rattle.vfa_opt.specs.Module.{Piece, IsModule, IsModuleText};
-ghost use Rattle.vfa_opt.specs.Refined.{IsRefined};
+ghost use Rattle.vfa_opt.specs.Sound.{IsSoundPiece};
 ghost use Rattle.vfa_opt.specs.Refusals.{IsRefusal};
 ghost use Rattle.vfa_opt.specs.Works.{IsPlaced, AreWorked};
 ghost use Rattle.vfa_opt.specs.declared.refusals.Refused.{Refused};
@@ -73,19 +72,22 @@ fn worked_out<R: AllocGlobal + Threads + Sync, G: Gate>(
     requires limit { length bytes.now ≤ 2 ^ 24 }
     requires workers { (1 ≤ workers) × (workers ≤ 64) }
     ensures text { IfOk result (λ text. IsModuleText job.now strict bytes.now text.out.items text.notes.items) }
-    ensures refined { OnOk result ((pieces : List Piece) × IsModule strict bytes.now pieces × All (IsRefined job.now) pieces) }
+    ensures sound { OnOk result ((pieces : List Piece) × IsModule strict bytes.now pieces × All (IsSoundPiece job.now) pieces) }
     ensures refused { IfErr result (λ e. (e ≡ Memory) ⊎ IsRefusal strict bytes.now e) }
 {
     let alloc = rt.alloc();
     let items = items_of(alloc, bytes)?;
     let all = works(rt, job, workers, bytes, &items, gate)?;
-    joined(alloc, strict, bytes, all)
+    joined(alloc, job, strict, bytes, all)
 }
 
 /// The job's text of a module and the notes on its functions that stay as they are; or why the module is refused.
 ///
 /// `Job::Opt`: each define that is a function of the profile is printed, with its constants folded where it is one block
 /// of bitwise operations. Every other define stays as it is, with a note, and so do all bytes between defines.
+///
+/// `Job::Facts`: for each define that is a function of the profile the report by its table, each line of which holds whenever a
+/// run comes to its place. Every other define has a note. All else is left out.
 ///
 /// A module is refused, in this order, with `Unclosed` or `BadLine` exactly where it does not split, with
 /// `DuplicateFunction` exactly where two functions of the profile have one name, and with `Strict` exactly where `strict`
@@ -104,7 +106,7 @@ pub fn module_out<R: AllocGlobal + Threads + Sync, G: Gate>(
     requires limit { length bytes.now ≤ 2 ^ 24 }
     requires workers { (1 ≤ workers) × (workers ≤ 64) }
     ensures text { IfOk result (λ text. IsModuleText job.now strict bytes.now text.out.items text.notes.items) }
-    ensures refined { OnOk result ((pieces : List Piece) → IsModule strict bytes.now pieces → All (IsRefined job.now) pieces) }
+    ensures sound { OnOk result ((pieces : List Piece) → IsModule strict bytes.now pieces → All (IsSoundPiece job.now) pieces) }
     ensures refused { IfErr result (λ e. (e ≡ Memory) ⊎ IsRefusal strict bytes.now e) }
     ensures answers { (pieces : List Piece) → IsModule strict bytes.now pieces → IfErr result (λ e. e ≡ Memory) }
     ensures refuses { (reason : Refused) → IsRefusal strict bytes.now reason →

@@ -5,7 +5,7 @@ ghost use Rattle.vfa_ir.specs.Reads.{Fit};
 ghost use Rattle.vfa_opt.specs.First.{IsFirst};
 ghost use Rattle.vfa_opt.specs.Fold.{folded as constants_folded};
 ghost use Rattle.vfa_opt.specs.Module.{IsPrinted};
-ghost use Rattle.vfa_opt.specs.Refined.{IsRefinement};
+ghost use Rattle.vfa_opt.specs.Sound.{IsRefinement};
 
 use crate::first::is_first;
 use crate::fold::fold;
@@ -64,7 +64,7 @@ fn whole_text(alloc: Global, f: &Function) -> Result<Vec<u8>, AllocError>
 pub fn printed(alloc: Global, f: &Function) -> Result<Vec<u8>, AllocError>
     requires { Fit f.now }
     ensures text { IfOk result (λ text. IsPrinted f.now text.items) }
-    ensures refines { IfOk result (λ text. (other : List ℕ) → IsPrinted f.now other → IsRefinement f.now other) }
+    ensures refines { IfOk result (λ _. (text : List ℕ) → IsPrinted f.now text → IsRefinement f.now text) }
 {
     if is_first(f) {
         folded_text(alloc, f)

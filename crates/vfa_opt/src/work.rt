@@ -2,21 +2,22 @@
 
 ghost use Rattle.std.specs.Prelude.{◌≡◌, ◌≤◌, ◌<◌, ◌+◌, ◌-◌, ◌^◌, ◌↔◌, ℕ, List, length, IfOk, IsTrue};
 ghost use Rattle.std.specs.List.{AllByRecursion};
-ghost use Rattle.vfa_ir.specs.Reads.{Fit};
 ghost use Rattle.vfa_ir.specs.Tokens.{tokens_of, IsPlaced as IsToken};
 ghost use Rattle.vfa_ir.specs.declared.reasons.Outside.TheVariants.{Memory};
 ghost use Rattle.vfa_module.specs.declared.items.Item.TheVariants.{Define};
-ghost use Rattle.vfa_opt.specs.declared.jobs.Job.TheVariants.{Opt};
 ghost use Rattle.vfa_opt.specs.Acceptance.{IsOutside, in_module as shown_reason, line_of};
-ghost use Rattle.vfa_opt.specs.Module.{accepted, define_name as name_of_define};
+ghost use Rattle.vfa_opt.specs.Module.{accepted, IsFunctionText, define_name as name_of_define};
+ghost use Rattle.vfa_opt.specs.Sound.{IsSound};
 ghost use Rattle.vfa_opt.specs.Works.{IsPlaced, IsRange, IsWorkOn, IsWorked};
 
 use crate::acceptance::accept;
 use crate::defines::define_name;
 use crate::jobs::Job;
 use crate::printed::printed;
+use crate::reported::reported;
 use std::alloc::{AllocError, Global};
-use vfa_ir::{Function, Name, Outside, Token};
+use vfa_check::Checked;
+use vfa_ir::{Name, Outside, Token};
 use vfa_lex::tokens;
 use vfa_module::Item;
 
@@ -32,7 +33,7 @@ pub struct Carried {
 /// What is made of an item of a module.
 #[derive(Debug, Drop)]
 pub enum Worked {
-    /// Bytes outside of all defines, which stay as they are.
+    /// Bytes outside of all defines.
     Copied {
         /// The offset of the first byte.
         start: usize,
@@ -57,15 +58,25 @@ pub enum Worked {
     },
 }
 
-/// The text for an accepted function, and its name.
-fn optimised_function(alloc: Global, f: &Function) -> Result<Worked, AllocError>
-    requires { Fit f.now }
-    ensures { (input : List ℕ) → IfOk result (IsWorkOn Opt input (accepted f.now)) }
+/// The text that a job writes for an accepted function.
+fn function_text(alloc: Global, job: &Job, f: &Checked) -> Result<Vec<u8>, AllocError>
+    ensures text { IfOk result (λ text. IsFunctionText job.now f.now text.items) }
+    ensures sound { IfOk result (λ _. (text : List ℕ) → IsFunctionText job.now f.now text → IsSound job.now f.now text) }
 {
-    let text = printed(alloc, f)?;
+    match job {
+        Job::Opt => printed(alloc, f.function()),
+        Job::Facts => reported(alloc, f),
+    }
+}
+
+/// The text that a job writes for an accepted function, and its name.
+fn function_work(alloc: Global, job: &Job, f: &Checked) -> Result<Worked, AllocError>
+    ensures { (input : List ℕ) → IfOk result (IsWorkOn job.now input (accepted f.now)) }
+{
+    let text = function_text(alloc, job, f)?;
     Ok(Worked::Printed {
         text,
-        name: f.name.copied(alloc)?,
+        name: f.function().name.copied(alloc)?,
     })
 }
 
@@ -123,9 +134,10 @@ fn line_is_within(text: &[u8], all: &[Token], reason: &Outside)
     ensures { line_of reason.now ≤ length text.now + 1 }
 {}
 
-/// The work of `opt` on a define.
-fn optimise_define(
+/// The work of a job on a define.
+fn define_work(
     alloc: Global,
+    job: &Job,
     bytes: &[u8],
     start: usize,
     end: usize,
@@ -134,12 +146,12 @@ fn optimise_define(
     requires range { IsRange bytes.now start end }
     requires limit { length bytes.now ≤ 16777216 }
     requires line { line ≤ 16777217 }
-    ensures { IfOk result (IsWorked Opt bytes.now (Define start end line)) }
+    ensures { IfOk result (IsWorked job.now bytes.now (Define start end line)) }
 {
     let text = &bytes[start..end];
     let all = tokens(alloc, text)?;
     match accept(alloc, text, &all) {
-        Ok(f) => optimised_function(alloc, f.function()),
+        Ok(f) => function_work(alloc, job, &f),
         Err(reason) => {
             if is_memory(&reason) {
                 return Err(AllocError);
@@ -155,18 +167,6 @@ fn optimise_define(
     }
 }
 
-/// The work of `opt` on an item.
-fn optimise(alloc: Global, bytes: &[u8], item: &Item) -> Result<Worked, AllocError>
-    requires place { IsPlaced bytes.now item.now }
-    requires limit { length bytes.now ≤ 16777216 }
-    ensures { IfOk result (IsWorked Opt bytes.now item.now) }
-{
-    match *item {
-        Item::Lines { start, end } => Ok(Worked::Copied { start, end }),
-        Item::Define { start, end, line } => optimise_define(alloc, bytes, start, end, line),
-    }
-}
-
 /// The work of a job on an item of a module's text: the text for it, the name of an accepted function, and a function that
 /// stays as it is.
 pub fn work(alloc: Global, job: &Job, bytes: &[u8], item: &Item) -> Result<Worked, AllocError>
@@ -174,7 +174,8 @@ pub fn work(alloc: Global, job: &Job, bytes: &[u8], item: &Item) -> Result<Worke
     requires limit { length bytes.now ≤ 16777216 }
     ensures { IfOk result (IsWorked job.now bytes.now item.now) }
 {
-    match job {
-        Job::Opt => optimise(alloc, bytes, item),
+    match *item {
+        Item::Lines { start, end } => Ok(Worked::Copied { start, end }),
+        Item::Define { start, end, line } => define_work(alloc, job, bytes, start, end, line),
     }
 }

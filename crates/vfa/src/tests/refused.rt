@@ -83,6 +83,6 @@ fn shows_the_usage(rt: HostRuntime) -> Result<(), Fail> {
         out: b"",
         err: usage,
     };
-    check_run(&rt, "facts", roomy(&rt, MASK, 4096)?, want)?;
+    check_run(&rt, "ask", roomy(&rt, MASK, 4096)?, want)?;
     check_run(&rt, "", roomy(&rt, MASK, 4096)?, want)
 }

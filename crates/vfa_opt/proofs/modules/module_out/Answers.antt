@@ -1,10 +1,10 @@
-use Rattle.vfa_opt.proofs.WorkLists.{refined_each, answers_in, refuses_in}
+use Rattle.vfa_opt.proofs.WorkLists.{sound_each, answers_in, refuses_in}
 use Rattle.vfa_opt.proofs.modules.module_out.Goals as goal
 
-pub returns-clause-refined : goal.returns-clause-refined
-returns-clause-refined g c =
-    refined_each c.args.job.now c.args.strict c.args.bytes.now (c.one_list_of_pieces.ensures c.args.bytes.now) c.worked_out.result
-    c.worked_out.ensures.refined
+pub returns-clause-sound : goal.returns-clause-sound
+returns-clause-sound g c =
+    sound_each c.args.job.now c.args.strict c.args.bytes.now (c.one_list_of_pieces.ensures c.args.bytes.now) c.worked_out.result
+    c.worked_out.ensures.sound
 
 pub returns-clause-answers : goal.returns-clause-answers
 returns-clause-answers g c =

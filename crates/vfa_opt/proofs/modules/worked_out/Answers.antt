@@ -1,5 +1,5 @@
 use Rattle.std.proofs.Common.{◌∙◌, Ok, sym, ap, rules}
-use Rattle.vfa_opt.proofs.WorkLists.{within_all, text_in, refined_in, refused_in}
+use Rattle.vfa_opt.proofs.WorkLists.{within_all, text_in, sound_in, refused_in}
 use Rattle.vfa_opt.proofs.modules.worked_out.Goals as goal
 
 pub returns-in_err-items-clause-refused : goal.returns-in_err-items-clause-refused
@@ -11,9 +11,9 @@ returns-clause-text g c =
     (c.in_ok-items.ensures.items ∙ ap (λ x. Ok x) (sym c.deref.ensures.value)) c.in_ok-all.ensures c.joined.result
     c.joined.ensures.out c.joined.ensures.notes c.joined.ensures.distinct c.joined.ensures.whole
 
-pub returns-clause-refined : goal.returns-clause-refined
-returns-clause-refined g c =
-    refined_in c.args.job.now c.args.strict c.args.bytes.now c.deref.result.now c.in_ok-all.all.items
+pub returns-clause-sound : goal.returns-clause-sound
+returns-clause-sound g c =
+    sound_in c.args.job.now c.args.strict c.args.bytes.now c.deref.result.now c.in_ok-all.all.items
     (c.in_ok-items.ensures.items ∙ ap (λ x. Ok x) (sym c.deref.ensures.value)) c.in_ok-all.ensures c.joined.result
     c.joined.ensures.distinct c.joined.ensures.whole
 

@@ -1,0 +1,36 @@
+-- What is claimed of the texts that stand for accepted functions.
+use Rattle.std.specs.Prelude.{◌≡◌, ⊤, ℕ, List, All}
+use Rattle.vfa_ir.specs.declared.functions.Function.{Function}
+use Rattle.vfa_ir.specs.declared.functions.Lines.{Lines}
+use Rattle.vfa_ir.specs.Reads.{Reads}
+use Rattle.vfa_report.specs.Report.{IsReport, report_lines}
+use Rattle.vfa_report.specs.ReportTruth.{LineHolds}
+use Rattle.vfa_opt.specs.declared.jobs.Job.{Job}
+use Rattle.vfa_opt.specs.First.{IsFirst}
+use Rattle.vfa_opt.specs.Module.{Piece, copied, accepted, carried, IsFunctionText}
+use Rattle.vfa_opt.specs.Refines.{Refines}
+
+-- A text that reads as a function which refines this one. Where no constants are folded, it is this one.
+pub record IsRefinement (f : Function) (text : List ℕ) : Type 0 where
+  pub function : Function
+  pub lines : Lines
+  pub reads : Reads text function lines
+  pub refines : Refines f function
+  pub same : (IsFirst f → ⊥) → function ≡ f
+
+-- The text is the report by the function's table, and each of its lines holds of the function's runs: whenever a run comes to the
+-- line's place, what the line shows of a name is so, and no run comes to a place that is said never to be reached or passed.
+pub record IsTrueReport (f : Function) (text : List ℕ) : Type 0 where
+  pub report : IsReport f text
+  pub holds : All (LineHolds f) (report_lines f report.table)
+
+-- what is claimed of a job's text for a function
+abbrev pub IsSound : Job → Function → List ℕ → Type 0
+IsSound Job.Opt = IsRefinement
+IsSound Job.Facts = IsTrueReport
+
+-- what a job writes for an accepted function is sound
+abbrev pub IsSoundPiece : Job → Piece → Type 0
+IsSoundPiece job (copied _) = ⊤
+IsSoundPiece job (accepted f) = (text : List ℕ) → IsFunctionText job f text → IsSound job f text
+IsSoundPiece job (carried _ _) = ⊤
