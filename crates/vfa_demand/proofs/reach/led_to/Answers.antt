@@ -1,4 +1,4 @@
-use Rattle.std.proofs.Common.{◌≡◌, ◌<◌, ◌∙◌, ℕ, List, [], true, ap, arith, get_or, length, refl, subst, sym}
+use Rattle.std.proofs.Common.{◌≡◌, ◌<◌, ◌∙◌, ℕ, List, [], true, ap, arith, false, get_or, length, replicate, rules, subst, sym}
 use Rattle.vfa_ir.specs.Words.{is_in}
 use Rattle.vfa_mean.proofs.FreshOperands.Definitions.{in_right, in_first}
 use Rattle.vfa_demand.proofs.Searching.{below_marks, names_at, search_begins, search_goes_on, search_ends, none_left}
@@ -6,7 +6,8 @@ use Rattle.vfa_demand.proofs.reach.led_to.Goals as goal
 
 pub steps-init : goal.steps-init
 steps-init c =
-    search_begins c.args.first.now c.args.leads.now _ _ _ _ c.in_ok-vec.ensures.items c.new.ensures.items c.in_ok-take_each.ensures
+    let marks : c.in_ok-vec.field-0.items ≡ replicate (length c.args.leads.now) false = search rules in
+    search_begins c.args.first.now c.args.leads.now _ _ _ _ marks c.new.ensures.items c.in_ok-take_each.ensures
 
 pub bounds-leads-number : goal.bounds-leads-number
 bounds-leads-number c =
