@@ -2,7 +2,7 @@
 use Rattle.std.proofs.Common.{◌≡◌, ℕ, zero, suc, ◌<◌, true, List, [], ◌∷◌, flat_map, length, Some, get_or, slice_get, refl, sym, subst, inl, inr, arith}
 use Rattle.std.proofs.lemmas.Option.{same_Some}
 use Rattle.vfa_ir.specs.Words.{is_in}
-use Rattle.vfa_mean.proofs.FreshOperands.Definitions.{in_left, in_right, in_cases, first_or_rest, in_first, in_rest}
+use Rattle.vfa_mean.proofs.FreshOperands.Definitions.{in_left, in_right, in_cases, in_first, in_rest}
 
 -- an element of lists joined, by its place
 pub record IsJoined {A : Type 0} (h : A → List ℕ) (xs : List A) (n : ℕ) : Type 0 where

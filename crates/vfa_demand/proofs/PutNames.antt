@@ -1,6 +1,6 @@
 -- Names that are put to those of each value.
-use Rattle.std.proofs.Common.{◌≡◌, ◌≢◌, ◌<◌, ◌≤◌, ℕ, zero, suc, ◌+◌, Bool, true, false, cond, nat_eq, List, [], ◌∷◌, ◌++◌, length, get_or, set, take, replicate, flat_map, ap, subst, arith, sym, refl, ◌∙◌, inl, inr, ◌⊎◌, length-set, append_assoc, append-nil, ne_eqb}
-use Rattle.std.proofs.lemmas.List.{get_or-set_other, get_or-set_same, length-replicate, take_more}
+use Rattle.std.proofs.Common.{◌≡◌, ◌≢◌, ◌<◌, ℕ, zero, suc, ◌+◌, true, false, cond, nat_eq, List, [], ◌∷◌, ◌++◌, length, get_or, set, take, replicate, flat_map, ap, subst, arith, sym, refl, ◌∙◌, inl, inr, ◌⊎◌, length-set, append_assoc, append-nil, ne_eqb}
+use Rattle.std.proofs.lemmas.List.{get_or-set_other, get_or-set_same, take_more}
 use Rattle.std.proofs.lemmas.List.Concat.{flat_map-append}
 use Rattle.std.proofs.lemmas.Bool.{cases_eq, eq-eqb}
 use Rattle.vfa_demand.specs.Behind.{ArePut}
@@ -48,7 +48,7 @@ pub put_more : {X : Type 0} (h : X → ℕ → List ℕ) (xs : List X) (i : ℕ)
 put_more {X} h xs i d a b c l one two =
     put_same (λ v. flat_map (λ x. h x v) (take i xs) ++ h (get_or xs i d) v) (λ v. flat_map (λ x. h x v) (take (i + 1) xs)) a c
     (λ v. sym (ap (flat_map (λ (x : X). h x v)) (take_more xs i d l) ∙ flat_map-append (λ (x : X). h x v) (take i xs) (get_or xs i d ∷ [])
-        ∙ ap (λ m. flat_map (λ (x : X). h x v) (take i xs) ++ m) (append-nil (h (get_or xs i d) v))))
+    ∙ ap (λ m. flat_map (λ (x : X). h x v) (take i xs) ++ m) (append-nil (h (get_or xs i d) v))))
     (put_then (λ v. flat_map (λ x. h x v) (take i xs)) (h (get_or xs i d)) a b c one two)
 
 pub none_put : (n v : ℕ) → v < n → ◌≡◌ {A = List ℕ} (get_or (replicate n []) v []) []

@@ -1,5 +1,5 @@
 -- The search for what some numbers lead to.
-use Rattle.std.proofs.Common.{◌≡◌, ◌≢◌, ◌<◌, ◌≤◌, ℕ, zero, suc, ◌+◌, ◌*◌, Bool, true, false, List, [], ◌∷◌, ◌++◌, length, get_or, set, take, replicate, ap, subst, arith, sym, refl, ◌∙◌, inl, inr, ◌⊎◌, length-set, length-append}
+use Rattle.std.proofs.Common.{◌≡◌, ◌≢◌, ◌<◌, ℕ, zero, suc, ◌+◌, ◌*◌, Bool, true, false, List, [], ◌∷◌, ◌++◌, length, get_or, set, take, replicate, ap, subst, arith, sym, refl, ◌∙◌, inl, inr, ◌⊎◌, length-set, length-append}
 use Rattle.std.proofs.lemmas.List.{get_or-set_other, get_or-set_same, get_or_default, length-replicate, take_more}
 use Rattle.std.proofs.lemmas.Bool.{cases_eq}
 use Rattle.vfa_ir.specs.Words.{is_in}

@@ -20,7 +20,7 @@ use Rattle.vfa_demand.specs.Behind.{phi_names, is_result, behind_phi, behind_lin
 use Rattle.vfa_demand.specs.Needed.{joined_from, names_if, needed_by, needed_in, needed_names}
 use Rattle.vfa_demand.specs.Reach.{IsLedTo, at_first, by_step}
 use Rattle.vfa_demand.specs.Used.{IsUsed, by_terminator, by_need, by_result, by_phi, AreUsed, UsesItsValues}
-use Rattle.vfa_demand.proofs.Members.{IsJoined, in_joined, out_joined}
+use Rattle.vfa_demand.proofs.Members.{in_joined, out_joined}
 
 -- ---- lists of numbered elements, joined
 

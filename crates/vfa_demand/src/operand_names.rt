@@ -27,12 +27,7 @@ fn push_two(names: &mut Vec<u32>, a: Operand, b: Operand) -> Result<(), AllocErr
     push_operand(names, b)
 }
 
-fn push_three(
-    names: &mut Vec<u32>,
-    a: Operand,
-    b: Operand,
-    c: Operand,
-) -> Result<(), AllocError>
+fn push_three(names: &mut Vec<u32>, a: Operand, b: Operand, c: Operand) -> Result<(), AllocError>
     ensures { IfOk result (λ _.
         names.new.items ≡ names.old.items ++ (operand_names a ++ (operand_names b ++ operand_names c))) }
 {

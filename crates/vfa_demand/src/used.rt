@@ -27,7 +27,12 @@ fn push_if(names: &mut Vec<u32>, f: &Function, stays: bool, inst: &Inst) -> Resu
     Ok(())
 }
 
-fn push_lines(names: &mut Vec<u32>, f: &Function, must: &[bool], insts: &[Inst]) -> Result<(), AllocError>
+fn push_lines(
+    names: &mut Vec<u32>,
+    f: &Function,
+    must: &[bool],
+    insts: &[Inst],
+) -> Result<(), AllocError>
     ensures { IfOk result (λ _.
         names.new.items ≡ names.old.items ++ needed_by f.now (λ i. slice_index_or must.now i false) insts.now) }
 {
@@ -39,7 +44,12 @@ fn push_lines(names: &mut Vec<u32>, f: &Function, must: &[bool], insts: &[Inst])
     Ok(())
 }
 
-fn push_block(names: &mut Vec<u32>, f: &Function, must: &[bool], block: &Block) -> Result<(), AllocError>
+fn push_block(
+    names: &mut Vec<u32>,
+    f: &Function,
+    must: &[bool],
+    block: &Block,
+) -> Result<(), AllocError>
     ensures { IfOk result (λ _.
         names.new.items ≡ names.old.items ++ needed_in f.now (λ i. slice_index_or must.now i false) block.now) }
 {
@@ -82,7 +92,11 @@ fn needed(alloc: Global, f: &Function, must: &[Items<bool>]) -> Result<Vec<u32>,
 /// once or nowhere. An error says that memory was wanting. After LLVM's aggressive dead code elimination.
 ///
 /// In `%a = add i8 %x, 1`, `%b = add i8 %y, 1`, `ret i8 %a` with nothing that has to stay they are `%a` and `%x`.
-pub fn used_names(alloc: Global, f: &Function, must: &[Items<bool>]) -> Result<Vec<bool>, AllocError>
+pub fn used_names(
+    alloc: Global,
+    f: &Function,
+    must: &[Items<bool>],
+) -> Result<Vec<bool>, AllocError>
     requires { UsesItsValues f.now }
     ensures used { IfOk result (λ used. AreUsed f.now (must_in must.now) (λ v. slice_index_or used.items v false)) }
     ensures length { IfOk result (λ used. length used.items ≡ length f.now.values) }

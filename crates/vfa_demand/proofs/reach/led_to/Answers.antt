@@ -1,6 +1,5 @@
-use Rattle.std.proofs.Common.{◌≡◌, ◌<◌, ◌∙◌, ℕ, List, [], true, ap, arith, false, get_or, length, replicate, rules, subst, sym}
+use Rattle.std.proofs.Common.{◌≡◌, [], true, arith, false, get_or, length, replicate, rules, subst}
 use Rattle.vfa_ir.specs.Words.{is_in}
-use Rattle.vfa_mean.proofs.FreshOperands.Definitions.{in_right, in_first}
 use Rattle.vfa_demand.proofs.Searching.{below_marks, names_at, search_begins, search_goes_on, search_ends, none_left}
 use Rattle.vfa_demand.proofs.reach.led_to.Goals as goal
 
@@ -34,7 +33,7 @@ pub returns-clause-exact : goal.returns-clause-exact
 returns-clause-exact c =
     let ahead = c.steps.search.ahead in
     let none : length ahead.items ≡ 0 = omega (arith, ahead.ok.0, c.in_default.ensures.cases.0) in λ v. (
-  c.steps.invariant.sound v,
-  search_ends c.args.first.now c.args.leads.now c.steps.search.marks.items c.steps.search.ahead.items
-      (none_left c.steps.search.ahead.items none) c.steps.invariant v,
-)
+      c.steps.invariant.sound v,
+      search_ends c.args.first.now c.args.leads.now c.steps.search.marks.items c.steps.search.ahead.items
+          (none_left c.steps.search.ahead.items none) c.steps.invariant v,
+    )

@@ -1,9 +1,7 @@
-use Rattle.std.proofs.Common.{◌≡◌, ◌∙◌, ℕ, Bool, List, length, subst, sym}
+use Rattle.std.proofs.Common.{◌∙◌, ℕ, List, subst, sym}
 use Rattle.vfa_ir.specs.declared.functions.Function.{Function}
-use Rattle.vfa_mean.specs.Kept.{is_marked}
 use Rattle.vfa_mean.proofs.KeptLoops.{ok_weaker}
 use Rattle.vfa_demand.specs.Behind.{AreNamesBehind}
-use Rattle.vfa_demand.specs.Needed.{needed_names}
 use Rattle.vfa_demand.specs.Used.{must_in}
 use Rattle.vfa_demand.proofs.UsedNames.{first_within, leads_within, found_used}
 use Rattle.vfa_demand.proofs.used.used_names.Goals as goal

@@ -1,4 +1,4 @@
-use Rattle.std.proofs.Common.{get_or, length, arith, ◌<◌, subst, sym, take_all}
+use Rattle.std.proofs.Common.{get_or, arith, ◌<◌, subst, sym, take_all}
 use Rattle.vfa_demand.specs.Reach.{AreTaken}
 use Rattle.vfa_demand.proofs.Members.{in_at}
 use Rattle.vfa_demand.proofs.Searching.{nothing_taken, taken_more}
