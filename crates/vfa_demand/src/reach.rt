@@ -10,7 +10,7 @@ use vfa_ir::Items;
 
 /// The numbers that were come to, and those of them whose steps are still to be taken.
 #[derive(Drop)]
-pub struct Search {
+struct Search {
     marks: Vec<bool>,
     ahead: Vec<u32>,
 }
