@@ -8,6 +8,7 @@ mod PutNames
 mod Searched
 mod Searching
 mod Shifts
+pub mod UsableNames
 mod UsableParts
 pub mod UsedNames
 mod Users
