@@ -1,5 +1,5 @@
 -- A function whose operands are usable uses names of its own values.
-use Rattle.std.proofs.Common.{◌≡◌, ◌<◌, ℕ, true, List, [], ◌∷◌, ◌++◌, map, flat_map, length, All, Option, Some, None, slice_get, ap, subst, sym, refl, ◌∙◌, inl, inr, ◌⊎◌, append-nil}
+use Rattle.std.proofs.Common.{◌≡◌, ◌<◌, ℕ, true, List, [], ◌∷◌, ◌++◌, map, flat_map, length, All, Option, Some, None, slice_get, ap, subst, sym, refl, inl, inr, append-nil}
 use Rattle.vfa_ir.specs.declared.operations.BlockId.{BlockId}
 use Rattle.vfa_ir.specs.declared.operations.Op.{Op}
 use Rattle.vfa_ir.specs.declared.operations.Operand.{Operand}
