@@ -1,4 +1,6 @@
 pub mod FirstUses
 pub mod LineTexts
+pub mod NameLines
+pub mod ReportTexts
 pub mod ReportTrue
 pub mod ShownFacts

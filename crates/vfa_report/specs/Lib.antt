@@ -4,3 +4,4 @@ pub mod Report
 pub mod ReportTruth
 pub mod Showing
 pub mod Uses
+pub mod Writing

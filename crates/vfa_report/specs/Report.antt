@@ -1,6 +1,6 @@
 -- The report on a function: what a table says of its names. Each line stands for a place, and shows what the state of the table
 -- there says.
-use Rattle.std.specs.Prelude.{◌≡◌, ℕ, suc, if◌then◌else◌, Option, Some, None, List, [], ◌∷◌, ◌++◌, flat_map, codes}
+use Rattle.std.specs.Prelude.{◌≡◌, ℕ, suc, Option, Some, None, List, [], ◌∷◌, ◌++◌, flat_map, codes}
 use Rattle.vfa_fact.specs.declared.cell.Parts.{Parts}
 use Rattle.vfa_ir.specs.declared.operations.ValueId.{ValueId}
 use Rattle.vfa_ir.specs.declared.functions.Block.{Block}

@@ -4,10 +4,14 @@
 mod cells;
 mod laws;
 mod lines;
+mod naming;
+mod reporting;
+mod shown;
 mod truth;
 mod uses;
 
 pub use laws::lines_show_facts;
 pub use lines::fact_line;
+pub use reporting::report;
 pub use truth::{one_report, reports_hold};
 pub use uses::names_in;

@@ -13,11 +13,12 @@ use vfa_fact::{Cell, Parts};
 use vfa_ir::Name;
 use vfa_print::push_name;
 use vfa_xfer::AnyFact;
+
 /// Puts the line of a cell last in a text. The part is what stands directly behind the name.
-fn push_line(
+pub fn push_line(
     alloc: Global,
     text: &mut Vec<u8>,
-    name: &Name,
+    name: &[u8],
     part: &[u8],
     cell: &Cell,
 ) -> Result<(), AllocError>
@@ -25,7 +26,7 @@ fn push_line(
     ensures cell { OnOk result (IsCell cell.now) }
 {
     text.push(b'%')?;
-    push_name(text, name.bytes())?;
+    push_name(text, name)?;
     text.extend_from_slice(part)?;
     push_cell(alloc, text, cell)
 }
@@ -44,13 +45,13 @@ pub fn fact_line(alloc: Global, name: &Name, fact: &AnyFact) -> Result<Vec<u8>, 
     let mut text = Vec::new(alloc);
     match &fact.parts {
         Parts::One(cell) => {
-            push_line(alloc, &mut text, name, b"", cell)?;
+            push_line(alloc, &mut text, name.bytes(), b"", cell)?;
             Ok(text)
         }
         Parts::Two(number, bit) => {
-            push_line(alloc, &mut text, name, b"[0]", number)?;
+            push_line(alloc, &mut text, name.bytes(), b"[0]", number)?;
             text.push(b'\n')?;
-            push_line(alloc, &mut text, name, b"[1]", bit)?;
+            push_line(alloc, &mut text, name.bytes(), b"[1]", bit)?;
             Ok(text)
         }
     }

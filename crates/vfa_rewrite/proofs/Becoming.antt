@@ -54,10 +54,6 @@ names_b f (Op.Part _ pair _) x h = absurd (cc)
 names_b f (Op.Assume c) x h = absurd (cc)
 names_b f (Op.Call _ _) x h = absurd (cc)
 
-change_operand : Change → Operand
-change_operand (Change.Uses u) = u
-change_operand change = Operand.Poison
-
 module _ (f : Function) (printable : IsPrintable f) (defined : Defined f) (found : Findings) (holds : AreTrue f found) where
   -- ---- a replaced name
 
@@ -120,7 +116,7 @@ module _ (f : Function) (printable : IsPrintable f) (defined : Defined f) (found
   becomes_typed place ty a a' (number b x e) is typed = subst (λ d. IsDecisionOf ty d) e (holds.of_type place ty b is typed)
   becomes_typed place ty a a' (no_number b e) is typed = tt
   becomes_typed place ty a a' (replaced n u c e r rest) is typed = becomes_typed place ty u c rest is (replaced_typed ty n u r typed)
-  becomes_typed place ty a a' (stays n e apart) is typed = typed
+  becomes_typed place ty a a' (stays b e apart) is typed = typed
 
   pub becomes_allows : (place : Place) (ty : Ty) (a a' : Operand) → Becomes f found place ty a a' → IsUsable f place ty a → (env : Env) → Moment f place env →
       AllowsValue (operand_value env a) (operand_value env a')
@@ -132,4 +128,4 @@ module _ (f : Function) (printable : IsPrintable f) (defined : Defined f) (found
   becomes_allows place ty a a' (replaced n u c e r rest) usable env moment =
       AllowsValue-trans (env n.0) (operand_value env u) (operand_value env c) (replaced_allows place n.0 u r usable.defined env moment)
       (becomes_allows place ty u c rest (replaced_usable place ty n u r usable) env moment)
-  becomes_allows place ty a a' (stays n e apart) usable env moment = AllowsValue-refl (env n.0)
+  becomes_allows place ty a a' (stays b e apart) usable env moment = AllowsValue-refl (operand_value env b)

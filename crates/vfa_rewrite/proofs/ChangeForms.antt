@@ -31,7 +31,7 @@ use Rattle.vfa_rules.specs.Conditions.{is_only, stays_in_range, is_natural}
 use Rattle.vfa_rules.specs.Facts.{number_cell, bit_cell}
 use Rattle.vfa_rules.specs.Order.{Known, Rule, PlainArithmetic, UnsignedForm, NarrowedDivision, GainedWords, FrozenAlready, AssumedAlready, KeptOperand, then_by, changed}
 use Rattle.vfa_rules.specs.Rules.{replaced, first_or_second, binary_gives_first, binary_gives, extreme_gives, plain, no_wrap, plain_if, range_of_overflow, extracted, unsigned_binary, unsigned_cast, division_widths, width_for, if_below, lesser_width, divides_unsigned, narrowed, narrow_width}
-use Rattle.vfa_rewrite.specs.Findings.{IsUsable, AreUsable, operation_of, IsFitting}
+use Rattle.vfa_rewrite.specs.Findings.{IsUsable, AreUsable, ChangeFits}
 
 -- ---- the lesser width
 
@@ -94,10 +94,6 @@ converts_still Cast.Sext x v w h = by (is_natural x)
     by true = h
     by false = h
 
-pub record Formed (f : Function) (place : Place) (op : Op) (change : Change) : Type 0 where
-  pub fits : IsFitting f op change
-  pub usable : AreUsable f place (operation_of change op)
-
 module _ (f : Function) (place : Place) (k : Known) where
   abbrev later : Change → List Rule → Change
   later change rules = fold (then_by k) change rules
@@ -112,11 +108,11 @@ module _ (f : Function) (place : Place) (k : Known) where
     unsigned = unsigned_binary bin (number_cell k.a) (number_cell k.b)
 
     after_narrowing : (o : Option ℕ) → ForSome o (IsLesser w) →
-        Formed f place (Op.Bin bin flags w a b) (later (narrowed (Op.Bin unsigned flags w a b) o) (GainedWords ∷ (FrozenAlready ∷ (AssumedAlready ∷ []))))
+        ChangeFits f place (Op.Bin bin flags w a b) (later (narrowed (Op.Bin unsigned flags w a b) o) (GainedWords ∷ (FrozenAlready ∷ (AssumedAlready ∷ []))))
     after_narrowing None h = record { fits = (refl, width); usable = usable }
     after_narrowing (Some v) h = let l = h v refl in record { fits = (refl, width, l.0, l.1); usable = usable }
 
-    after_kept : (s t : Bool) → Formed f place (Op.Bin bin flags w a b)
+    after_kept : (s t : Bool) → ChangeFits f place (Op.Bin bin flags w a b)
         (later (replaced (Op.Bin bin flags w a b) (first_or_second s t a b)) (PlainArithmetic ∷ (UnsignedForm ∷ (NarrowedDivision ∷ (GainedWords ∷ (FrozenAlready ∷ (AssumedAlready ∷ [])))))))
     after_kept true t = record { fits = (inl refl, usable.0.typed); usable = usable }
     after_kept false true = record { fits = (inr refl, usable.1.typed); usable = usable }
@@ -124,30 +120,30 @@ module _ (f : Function) (place : Place) (k : Known) where
         after_narrowing (narrow_width k.used (number_cell k.a) (number_cell k.b) (Op.Bin unsigned flags w a b))
         (narrow_is_lesser k.used (number_cell k.a) (number_cell k.b) unsigned flags w a b)
 
-    bin_formed : Formed f place (Op.Bin bin flags w a b) (changed k (Op.Bin bin flags w a b))
+    bin_formed : ChangeFits f place (Op.Bin bin flags w a b) (changed k (Op.Bin bin flags w a b))
     unfolding changed
     bin_formed = after_kept (binary_gives_first bin (number_cell k.a) (number_cell k.b)) (binary_gives bin (number_cell k.b) (number_cell k.a))
 
   -- ---- plain arithmetic in place of an intrinsic
 
   plain_formed : (old : Op) (op : Arith) (flags : Flags) (w : ℕ) (a b : Operand) → op_type old ≡ Ty.Int w → IsWidth w → IsUsable f place (Ty.Int w) a × IsUsable f place (Ty.Int w) b →
-      Formed f place old (later (Change.Keep (Op.Bin (plain op) flags w a b)) (UnsignedForm ∷ (NarrowedDivision ∷ (GainedWords ∷ (FrozenAlready ∷ (AssumedAlready ∷ []))))))
+      ChangeFits f place old (later (Change.Keep (Op.Bin (plain op) flags w a b)) (UnsignedForm ∷ (NarrowedDivision ∷ (GainedWords ∷ (FrozenAlready ∷ (AssumedAlready ∷ []))))))
   plain_formed old Arith.Add flags w a b same width usable = record { fits = (sym same, width); usable = usable }
   plain_formed old Arith.Sub flags w a b same width usable = record { fits = (sym same, width); usable = usable }
   plain_formed old Arith.Mul flags w a b same width usable = record { fits = (sym same, width); usable = usable }
   plain_formed old Arith.Shl flags w a b same width usable = record { fits = (sym same, width); usable = usable }
 
   module _ (fun : Fun2) (w : ℕ) (a b : Operand) (width : IsWidth w) (usable : IsUsable f place (Ty.Int w) a × IsUsable f place (Ty.Int w) b) where
-    two_stays : Formed f place (Op.Two fun w a b) (Change.Keep (Op.Two fun w a b))
+    two_stays : ChangeFits f place (Op.Two fun w a b) (Change.Keep (Op.Two fun w a b))
     two_stays = record { fits = (refl, width); usable = usable }
 
-    plain_or_two : (t : Bool) (op : Arith) (reading : Reading) → Formed f place (Op.Two fun w a b)
+    plain_or_two : (t : Bool) (op : Arith) (reading : Reading) → ChangeFits f place (Op.Two fun w a b)
         (later (Change.Keep (plain_if t op reading w a b (Op.Two fun w a b))) (UnsignedForm ∷ (NarrowedDivision ∷ (GainedWords ∷ (FrozenAlready ∷ (AssumedAlready ∷ []))))))
     plain_or_two true op reading = plain_formed (Op.Two fun w a b) op (no_wrap reading) w a b refl width usable
     plain_or_two false op reading = two_stays
 
   two_after_kept : (fun : Fun2) (w : ℕ) (a b : Operand) → IsWidth w → IsUsable f place (Ty.Int w) a × IsUsable f place (Ty.Int w) b → (s t : Bool) →
-      Formed f place (Op.Two fun w a b)
+      ChangeFits f place (Op.Two fun w a b)
       (later (replaced (Op.Two fun w a b) (first_or_second s t a b)) (PlainArithmetic ∷ (UnsignedForm ∷ (NarrowedDivision ∷ (GainedWords ∷ (FrozenAlready ∷ (AssumedAlready ∷ [])))))))
   two_after_kept fun w a b width usable true t = record { fits = (inl refl, usable.0.typed); usable = usable }
   two_after_kept fun w a b width usable false true = record { fits = (inr refl, usable.1.typed); usable = usable }
@@ -165,7 +161,7 @@ module _ (f : Function) (place : Place) (k : Known) where
       plain_or_two Fun2.SsubSat w a b width usable (stays_in_range Arith.Sub Reading.Signed (number_cell k.a) (number_cell k.b)) Arith.Sub Reading.Signed
 
   two_formed : (fun : Fun2) (w : ℕ) (a b : Operand) → IsWidth w → IsUsable f place (Ty.Int w) a × IsUsable f place (Ty.Int w) b →
-      Formed f place (Op.Two fun w a b) (changed k (Op.Two fun w a b))
+      ChangeFits f place (Op.Two fun w a b) (changed k (Op.Two fun w a b))
   unfolding changed
   two_formed fun w a b width usable =
       two_after_kept fun w a b width usable (extreme_gives fun (number_cell k.a) (number_cell k.b)) (extreme_gives fun (number_cell k.b) (number_cell k.a))
@@ -178,15 +174,15 @@ module _ (f : Function) (place : Place) (k : Known) where
   CallIsUsable (Some call) w = IsUsable f place (Ty.Int w) call.a × IsUsable f place (Ty.Int w) call.b
 
   module _ (w : ℕ) (pair : ValueId) (index : ℕ) (is : IsOperation (Op.Part w pair index)) (usable : IsUsable f place (Ty.Pair w) (Operand.Value pair)) where
-    part_stays : Formed f place (Op.Part w pair index) (Change.Keep (Op.Part w pair index))
+    part_stays : ChangeFits f place (Op.Part w pair index) (Change.Keep (Op.Part w pair index))
     part_stays = record { fits = (refl, is); usable = usable }
 
-    part_by : (o : Option OverflowCall) → CallIsUsable o w → Formed f place (Op.Part w pair index)
+    part_by : (o : Option OverflowCall) → CallIsUsable o w → ChangeFits f place (Op.Part w pair index)
         (later (Change.Keep (extracted o (bit_cell k.c) w pair index)) (UnsignedForm ∷ (NarrowedDivision ∷ (GainedWords ∷ (FrozenAlready ∷ (AssumedAlready ∷ []))))))
     part_by None h = part_stays
     part_by (Some call) h = by (nat_eq index 0) refl (is_only (bit_cell k.c) 0)
       where
-        by : (s : Bool) → nat_eq index 0 ≡ s → (t : Bool) → Formed f place (Op.Part w pair index)
+        by : (s : Bool) → nat_eq index 0 ≡ s → (t : Bool) → ChangeFits f place (Op.Part w pair index)
             (later (Change.Keep (plain_if (s && t) (overflow_arith call.over) (range_of_overflow call.over) w call.a call.b (Op.Part w pair index))) (UnsignedForm ∷ (NarrowedDivision ∷ (GainedWords ∷ (FrozenAlready ∷ (AssumedAlready ∷ []))))))
         by true e true =
             plain_formed (Op.Part w pair index) (overflow_arith call.over) (no_wrap (range_of_overflow call.over)) w call.a call.b
@@ -194,38 +190,38 @@ module _ (f : Function) (place : Place) (k : Known) where
         by true e false = part_stays
         by false e t = part_stays
 
-    part_formed : CallIsUsable k.call w → Formed f place (Op.Part w pair index) (changed k (Op.Part w pair index))
+    part_formed : CallIsUsable k.call w → ChangeFits f place (Op.Part w pair index) (changed k (Op.Part w pair index))
     unfolding changed
     part_formed h = part_by k.call h
 
   -- ---- the other operations
 
-  select_formed : (w : ℕ) (c a b : Operand) → IsWidth w → AreUsable f place (Op.Select w c a b) → Formed f place (Op.Select w c a b) (changed k (Op.Select w c a b))
+  select_formed : (w : ℕ) (c a b : Operand) → IsWidth w → AreUsable f place (Op.Select w c a b) → ChangeFits f place (Op.Select w c a b) (changed k (Op.Select w c a b))
   unfolding changed
   select_formed w c a b width usable = by (single_of (number_cell k.c).width (in_cell (number_cell k.c)))
     where
-      arm : (t : Bool) → Formed f place (Op.Select w c a b) (Change.Uses (if t then b else a))
+      arm : (t : Bool) → ChangeFits f place (Op.Select w c a b) (Change.Uses (if t then b else a))
       arm true = record { fits = (inr refl, usable.2.typed); usable = usable }
       arm false = record { fits = (inl refl, usable.1.typed); usable = usable }
 
-      by : (o : Option ℕ) → Formed f place (Op.Select w c a b)
+      by : (o : Option ℕ) → ChangeFits f place (Op.Select w c a b)
           (later (replaced (Op.Select w c a b) (option_map (λ n. if nat_eq n 0 then b else a) o)) (KeptOperand ∷ (PlainArithmetic ∷ (UnsignedForm ∷ (NarrowedDivision ∷ (GainedWords ∷ (FrozenAlready ∷ (AssumedAlready ∷ []))))))))
       by None = record { fits = (refl, width); usable = usable }
       by (Some n) = arm (nat_eq n 0)
 
-  freeze_formed : (w : ℕ) (a : Operand) → IsWidth w → IsUsable f place (Ty.Int w) a → Formed f place (Op.Freeze w a) (changed k (Op.Freeze w a))
+  freeze_formed : (w : ℕ) (a : Operand) → IsWidth w → IsUsable f place (Ty.Int w) a → ChangeFits f place (Op.Freeze w a) (changed k (Op.Freeze w a))
   unfolding changed
   freeze_formed w a width usable = by (number_cell k.a).never_poison
     where
-      by : (t : Bool) → Formed f place (Op.Freeze w a) (later (replaced (Op.Freeze w a) (if t then Some a else None)) (AssumedAlready ∷ []))
+      by : (t : Bool) → ChangeFits f place (Op.Freeze w a) (later (replaced (Op.Freeze w a) (if t then Some a else None)) (AssumedAlready ∷ []))
       by true = record { fits = (inl refl, usable.typed); usable = usable }
       by false = record { fits = (refl, width); usable = usable }
 
-  assume_formed : (c : Operand) → IsUsable f place (Ty.Int 1) c → Formed f place (Op.Assume c) (changed k (Op.Assume c))
+  assume_formed : (c : Operand) → IsUsable f place (Ty.Int 1) c → ChangeFits f place (Op.Assume c) (changed k (Op.Assume c))
   unfolding changed
   assume_formed c usable = by (is_only (number_cell k.c) 1)
     where
-      by : (t : Bool) → Formed f place (Op.Assume c) (if t then Change.Gone else Change.Keep (Op.Assume c))
+      by : (t : Bool) → ChangeFits f place (Op.Assume c) (if t then Change.Gone else Change.Keep (Op.Assume c))
       by true = record { fits = tt; usable = usable }
       by false = record { fits = (refl, tt); usable = usable }
 
@@ -233,7 +229,7 @@ module _ (f : Function) (place : Place) (k : Known) where
   CallFits (Op.Part w pair index) = CallIsUsable k.call w
   CallFits op = Unit {0}
 
-  pub formed : (op : Op) → is_call op ≡ false → IsOperation op → AreUsable f place op → CallFits op → Formed f place op (changed k op)
+  pub formed : (op : Op) → is_call op ≡ false → IsOperation op → AreUsable f place op → CallFits op → ChangeFits f place op (changed k op)
   unfolding changed
   formed (Op.Bin bin flags w a b) plain is usable call = bin_formed bin flags w a b is usable
   formed (Op.Icmp pred samesign w a b) plain is usable call = record { fits = (refl, is); usable = usable }

@@ -43,9 +43,10 @@ use Rattle.vfa_rules.specs.Results.{AreFactsFor, FactsHold, IsAllowed, IsSoundAt
 use Rattle.vfa_rules.specs.Uses.{first_found, overflow_of, overflow_in, overflow_call, is_result, is_used}
 use Rattle.vfa_rules.proofs.Sound.{changed_sound}
 use Rattle.vfa_rewrite.specs.ByFacts.{FactState, FactTable, fact_state, first_known, second_known, known_type, change_in, findings_of}
-use Rattle.vfa_rewrite.specs.Findings.{IsUsable, AreUsable, StaysGiving, ChangeHolds, ChangesHold}
+use Rattle.vfa_rewrite.specs.Findings.{IsUsable, AreUsable, StaysGiving, ChangeFits, ChangeHolds, ChangesHold}
 use Rattle.vfa_rewrite.proofs.ChangeForms.{CallIsUsable, CallFits, formed}
 use Rattle.vfa_rewrite.proofs.FactDecisions.{state_typed, operand_typed, fact_holds, met_at, MetIn, OfTypes}
+use Rattle.vfa_rewrite.proofs.FreshNames.{IsNamed, named_result}
 use Rattle.vfa_rewrite.proofs.LiveOperands.{operand_is_live}
 use Rattle.vfa_rewrite.proofs.MarkedLines.{usable_operand}
 
@@ -84,15 +85,6 @@ over_op w (Op.One fun u a strict) call h = absurd (cc)
 over_op w (Op.Part u pair index) call h = absurd (cc)
 over_op w (Op.Assume c) call h = absurd (cc)
 over_op w (Op.Call u c) call h = absurd (cc)
-
-record IsNamed (o : Option ValueId) (v : ℕ) : Type 0 where
-  name : ValueId
-  result : o ≡ Some name
-  same : name.0 ≡ v
-
-named_result : (o : Option ValueId) (v : ℕ) → is_result v o ≡ true → IsNamed o v
-named_result None v h = absurd (cc)
-named_result (Some name) v h = record { name = name; result = refl; same = eqb-true name.0 v h }
 
 record IsOverflowInst (w v : ℕ) (call : OverflowCall) (inst : Inst) : Type 0 where
   named : IsNamed inst.result v
@@ -142,7 +134,7 @@ overflow_line f w pair index call h =
       inst = l.found.inst;
       name = l.found.is.named.name;
       line = record { there = l.there; stands = l.found.there };
-      result = l.found.is.named.result;
+      result = l.found.is.named.is;
       same = l.found.is.named.same;
       is = l.found.is.is;
     }
@@ -200,7 +192,7 @@ of_parts ty d of = record { is_proper = of.is_proper; typed = of.typed }
 parts_hold : (d : AnyFact) (v : Val) → HoldsOf d v → PartsHold d.parts v
 parts_hold d v h = h
 
-module _ (f : Function) (t : FactTable) (checked : IsChecked f) (printable : IsPrintable f) (facts : HasTypedFacts fact_type IsAnyFact f t) (is_true : IsTrueTable HoldsOf f t) where
+module _ (f : Function) (t : FactTable) (checked : IsChecked f) (printable : IsPrintable f) (facts : HasTypedFacts fact_type IsAnyFact f t) where
   module _ (place : Place) (s : FactState) where
     abbrev fact : Ty → Operand → Parts
     fact ty a = (fact_of fact_answers s ty a).parts
@@ -263,7 +255,7 @@ module _ (f : Function) (t : FactTable) (checked : IsChecked f) (printable : IsP
       facts_for (Op.Assume c) used plain usable = record { operands = of (Ty.Int 1) c usable; call_operands = tt }
       facts_for (Op.Call w call) used plain usable = absurd (cc)
 
-    module _ (env : Env) (moment : Moment f place env) (met : MetIn f t checked printable facts is_true env s) where
+    module _ (is_true : IsTrueTable HoldsOf f t) (env : Env) (moment : Moment f place env) (met : MetIn f t checked printable facts is_true env s) where
       at : (ty : Ty) (a : Operand) → IsUsable f place ty a → PartsHold (fact ty a) (operand_value env a)
       at ty a usable = parts_hold (fact_of fact_answers s ty a) (operand_value env a)
           (fact_holds f t checked printable facts is_true env s place ty a moment met usable.is_type usable.typed)
@@ -301,26 +293,44 @@ module _ (f : Function) (t : FactTable) (checked : IsChecked f) (printable : IsP
 
   -- ---- each change
 
-  change_by : (b : ℕ) (block : Block) (i : ℕ) (inst : Inst) → IsLine f b block i inst → is_call inst.op ≡ false → IsOperation inst.op → AreUsable f (At b i) inst.op →
-      (o : Option FactState) → fact_state f t (At b i) ≡ o → ForSome o (OfTypes f t checked printable facts) → is_some o ≡ true → ChangeHolds f (At b i) inst.op (change_in f o inst)
-  change_by b block i inst line plain is usable None e typed met = absurd (cc)
-  change_by b block i inst line plain is usable (Some s) e typed met =
-      let used = is_used f inst.result in
-      let k = known_for (At b i) s inst.op used in
-      let form = formed f (At b i) k inst.op plain is usable (call_fits (At b i) s inst.op used plain usable) in
-      let sound = λ (env : Env) (moment : Moment f (At b i) env).
-      let at_moment = subst (λ o. IsSomeAnd o (MetIn f t checked printable facts is_true env)) e (met_at f t checked printable facts is_true (At b i) env moment) in
-      changed_sound k inst.op (facts_for (At b i) s (typed s refl) inst.op used plain usable) (λ _. is) env (facts_at (At b i) s env moment at_moment inst.op used plain usable) in
-      record {
-        fits = form.fits;
-        usable = form.usable;
-        allows = λ env moment r' gives. stays_allowed inst.op env (changed k inst.op) (sound env moment) r' gives;
-        replaced = λ env moment. (sound env moment).replaced;
-      }
+  module _ (b : ℕ) (block : Block) (i : ℕ) (inst : Inst) (line : IsLine f b block i inst) (plain : is_call inst.op ≡ false) where
+    does_operation : IsOperation inst.op
+    does_operation = is_operation f inst.op plain (line_is_typed f printable checked.formed.typed b i block inst line)
 
-  pub changes_hold : ChangesHold f (findings_of f t)
-  changes_hold b block i inst line met plain =
-      let typed = line_is_typed f printable checked.formed.typed b i block inst line in
-      change_by b block i inst line plain (is_operation f inst.op plain typed)
-      (usable_by f (At b i) inst.op plain typed (λ n h. use_is_defined f b block i inst n checked.formed.defined line h))
-      (fact_state f t (At b i)) refl (state_typed f t checked printable facts (At b i)) met
+    usable_here : AreUsable f (At b i) inst.op
+    usable_here = usable_by f (At b i) inst.op plain (line_is_typed f printable checked.formed.typed b i block inst line)
+        (λ n h. use_is_defined f b block i inst n checked.formed.defined line h)
+
+    fits_in : (s : FactState) → ChangeFits f (At b i) inst.op (change_in f (Some s) inst)
+    fits_in s =
+        let used = is_used f inst.result in
+        formed f (At b i) (known_for (At b i) s inst.op used) inst.op plain does_operation usable_here (call_fits (At b i) s inst.op used plain usable_here)
+
+    change_fits : (o : Option FactState) → is_some o ≡ true → ChangeFits f (At b i) inst.op (change_in f o inst)
+    change_fits None met = absurd (cc)
+    change_fits (Some s) met = fits_in s
+
+    change_by : IsTrueTable HoldsOf f t → (o : Option FactState) → fact_state f t (At b i) ≡ o → ForSome o (OfTypes f t checked printable facts) → is_some o ≡ true →
+        ChangeHolds f (At b i) inst.op (change_in f o inst)
+    change_by is_true None e typed met = absurd (cc)
+    change_by is_true (Some s) e typed met =
+        let used = is_used f inst.result in
+        let k = known_for (At b i) s inst.op used in
+        let form = fits_in s in
+        let sound = λ (env : Env) (moment : Moment f (At b i) env).
+        let at_moment = subst (λ o. IsSomeAnd o (MetIn f t checked printable facts is_true env)) e (met_at f t checked printable facts is_true (At b i) env moment) in
+        changed_sound k inst.op (facts_for (At b i) s (typed s refl) inst.op used plain usable_here) (λ _. does_operation) env (facts_at (At b i) s is_true env moment at_moment inst.op used plain usable_here) in
+        record {
+          fits = form.fits;
+          usable = form.usable;
+          allows = λ env moment r' gives. stays_allowed inst.op env (changed k inst.op) (sound env moment) r' gives;
+          replaced = λ env moment. (sound env moment).replaced;
+        }
+
+  pub changes_fit : (b : ℕ) (block : Block) (i : ℕ) (inst : Inst) → IsLine f b block i inst → (findings_of f t).met b i ≡ true → is_call inst.op ≡ false →
+      ChangeFits f (At b i) inst.op ((findings_of f t).change b i inst)
+  changes_fit b block i inst line met plain = change_fits b block i inst line plain (fact_state f t (At b i)) met
+
+  pub changes_hold : IsTrueTable HoldsOf f t → ChangesHold f (findings_of f t)
+  changes_hold is_true b block i inst line met plain =
+      change_by b block i inst line plain is_true (fact_state f t (At b i)) refl (state_typed f t checked printable facts (At b i)) met

@@ -42,7 +42,7 @@ use Rattle.vfa_xfer.specs.Transfers.{fact_answers}
 use Rattle.vfa_rules.specs.declared.change.Change.{Change}
 use Rattle.vfa_rules.specs.Order.{Known, changed}
 use Rattle.vfa_rewrite.specs.ByFacts.{FactState, FactTable, fact_state, decided_by, decision_of, decision_in, facts_known, change_in, edge_state, findings_of}
-use Rattle.vfa_rewrite.specs.Findings.{Undecided, IsTypedOperand, IsDecisionOf, DecisionHolds, ChangesHold, AreTrue}
+use Rattle.vfa_rewrite.specs.Findings.{IsTypedOperand, IsDecisionOf, DecisionHolds, ChangesHold, AreTrue}
 use Rattle.vfa_rewrite.proofs.Lines.{call_tells}
 use Rattle.vfa_rewrite.proofs.Ranges.{typed_value}
 
@@ -81,9 +81,6 @@ parts_of_type : (t : Ty) (p : Parts) → IsOf fact_type IsAnyFact t (record { pa
 parts_of_type (Ty.Int w) (Parts.One c) of = cell_of_type w c.numbers (single_in c) (fact_laws.typed.single w (record { parts = Parts.One c }) of)
 parts_of_type (Ty.Pair w) (Parts.One c) of = absurd (let e = of.typed in cc)
 parts_of_type t (Parts.Two c d) of = tt
-
-undecided_of_type : (t : Ty) → IsDecisionOf t Undecided
-undecided_of_type t = tt
 
 -- ---- operands
 
@@ -128,12 +125,25 @@ module _ (f : Function) (t : FactTable) (checked : IsChecked f) (printable : IsP
   operand_typed s (Ty.Pair w) (Operand.Literal x) h is typed = absurd typed
   operand_typed s (Ty.Pair w) Operand.Poison h is typed = fact_laws.typed.poison (Ty.Pair w) is
 
-  decisions_of_type : (place : Place) (ty : Ty) (a : Operand) → IsType ty → IsTypedOperand f ty a → IsDecisionOf ty ((findings_of f t).decision place ty a)
+  pub decisions_of_type : (place : Place) (ty : Ty) (a : Operand) → IsType ty → IsTypedOperand f ty a → IsDecisionOf ty ((findings_of f t).decision place ty a)
   decisions_of_type place ty a is typed = by (fact_state f t place) (state_typed place)
     where
       by : (o : Option FactState) → ForSome o OfTypes → IsDecisionOf ty (decision_in o ty a)
       by None h = tt
       by (Some s) h = parts_of_type ty (fact_of fact_answers s ty a).parts (operand_typed s ty a (h s refl) is typed)
+
+  -- ---- calls
+
+  call_is_kept : (k : Known) (op : Op) → is_call op ≡ true → changed k op ≡ Change.Keep op
+  unfolding changed
+  call_is_kept k op e = let c = call_tells op e in subst (λ o. changed k o ≡ Change.Keep o) (sym c.is) refl
+
+  pub calls_are_kept : (b : ℕ) (block : Block) (i : ℕ) (inst : Inst) → IsLine f b block i inst → is_call inst.op ≡ true → (findings_of f t).change b i inst ≡ Change.Keep inst.op
+  calls_are_kept b block i inst line call = by (fact_state f t (At b i))
+    where
+      by : (o : Option FactState) → change_in f o inst ≡ Change.Keep inst.op
+      by None = refl
+      by (Some s) = call_is_kept (facts_known f s inst) inst.op call
 
   -- ---- truth
 
@@ -182,19 +192,6 @@ module _ (f : Function) (t : FactTable) (checked : IsChecked f) (printable : IsP
         by : (o : Option FactState) → IsSomeAnd o (MetIn env) → DecisionHolds (decision_in o ty a) (operand_value env a)
         by None h = absurd h
         by (Some s) met = parts_decide ty (fact_of fact_answers s ty a).parts (operand_value env a) (operand_typed s ty a met.facts is typed) (fact_holds env s place ty a moment met is typed)
-
-    -- ---- calls
-
-    call_is_kept : (k : Known) (op : Op) → is_call op ≡ true → changed k op ≡ Change.Keep op
-    unfolding changed
-    call_is_kept k op e = let c = call_tells op e in subst (λ o. changed k o ≡ Change.Keep o) (sym c.is) refl
-
-    calls_are_kept : (b : ℕ) (block : Block) (i : ℕ) (inst : Inst) → IsLine f b block i inst → is_call inst.op ≡ true → (findings_of f t).change b i inst ≡ Change.Keep inst.op
-    calls_are_kept b block i inst line call = by (fact_state f t (At b i))
-      where
-        by : (o : Option FactState) → change_in f o inst ≡ Change.Keep inst.op
-        by None = refl
-        by (Some s) = call_is_kept (facts_known f s inst) inst.op call
 
     pub are_true : ChangesHold f (findings_of f t) → AreTrue f (findings_of f t)
     are_true changes = record {

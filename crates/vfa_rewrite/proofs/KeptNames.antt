@@ -31,7 +31,7 @@ use Rattle.vfa_rewrite.proofs.Becoming.{becomes_typed}
 use Rattle.vfa_rewrite.proofs.Left.{made_at}
 use Rattle.vfa_rewrite.proofs.Lines.{call_tells}
 use Rattle.vfa_rewrite.proofs.MarkedBlocks.{entry_usable, entry_becomes, term_reads, block_sound}
-use Rattle.vfa_rewrite.proofs.MarkedLines.{typed_operand, operation_plain}
+use Rattle.vfa_rewrite.proofs.MarkedLines.{names_in, typed_operand, operation_plain}
 use Rattle.vfa_rewrite.proofs.Ranges.{typed_value, parameters_below}
 
 pub operand_below : (f : Function) (ty : Ty) (a : Operand) (n : ℕ) → IsTypedOperand f ty a → is_in n (operand_names a) ≡ true → n < length f.values
@@ -41,9 +41,6 @@ operand_below f ty (Operand.Value v) n typed t = elim (first_or_rest n v.0 [] t)
 ]
 operand_below f ty (Operand.Literal x) n typed t = absurd (cc)
 operand_below f ty Operand.Poison n typed t = absurd (cc)
-
-abbrev pub names_in : Option CallOp → List ℕ
-names_in o = elim o [ None ↦ [] | Some c ↦ flat_map (λ (a : CallArg). operand_names a.value) c.args ]
 
 pub changed_plain : (f : Function) (old : Op) (c : Change) → IsFitting f old c → is_call old ≡ false → is_call (operation_of c old) ≡ false
 changed_plain f old (Change.Keep op) fits plain = operation_plain op fits.1

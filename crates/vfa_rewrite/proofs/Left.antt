@@ -1,5 +1,5 @@
 -- Elements of lists that are made with their numbers, and of longer lists.
-use Rattle.std.proofs.Common.{◌≡◌, ℕ, zero, suc, ◌+◌, ◌<◌, List, [], ◌∷◌, ◌++◌, Some, slice_get, length, refl, arith}
+use Rattle.std.proofs.Common.{◌≡◌, ℕ, zero, suc, ◌+◌, ◌<◌, List, [], ◌∷◌, ◌++◌, Some, slice_get, length, refl, ap, arith}
 use Rattle.std.proofs.lemmas.Option.{same_Some}
 use Rattle.vfa_rewrite.specs.Rewritten.{with_numbers}
 
@@ -21,3 +21,9 @@ pub get_before : {A : Type 0} (xs ys : List A) (n : ℕ) → n < length xs → s
 get_before [] ys n h = absurd (omega (arith, h))
 get_before (x ∷ xs) ys zero h = refl
 get_before (x ∷ xs) ys (suc n) h = get_before xs ys n (omega (arith, h))
+
+-- and what is put behind it stands behind it
+pub get_behind : {A : Type 0} (xs ys : List A) (n k : ℕ) → k ≡ length xs + n → slice_get (xs ++ ys) k ≡ slice_get ys n
+get_behind [] ys n k e = let same : k ≡ n = omega (arith, e) in ap (slice_get ys) same
+get_behind (x ∷ xs) ys n zero e = absurd (omega (arith, e))
+get_behind (x ∷ xs) ys n (suc k) e = get_behind xs ys n k (omega (arith, e))

@@ -39,7 +39,7 @@ all_lines (i ∷ insts) (suc n) x t = in_more (id_of i) x (inst_ids (take n inst
 abbrev phi_ids : Block → List ℕ
 phi_ids block = map (λ (p : Phi). p.result.0) block.phis
 
-before_more : (f : Function) (b n k x : ℕ) → n ≤ k → is_in x (results_before f b n) ≡ true → is_in x (results_before f b k) ≡ true
+pub before_more : (f : Function) (b n k x : ℕ) → n ≤ k → is_in x (results_before f b n) ≡ true → is_in x (results_before f b k) ≡ true
 before_more f b n k x l = by (slice_get f.blocks b)
   where
     by : (o : Option Block) → is_in x (elim o [ None ↦ [] | Some block ↦ phi_ids block ++ inst_ids (take n block.insts) ]) ≡ true →
@@ -50,7 +50,7 @@ before_more f b n k x l = by (slice_get f.blocks b)
       | inr r ↦ in_right x (phi_ids block) (inst_ids (take k block.insts)) (more_lines block.insts n k x l r)
     ]
 
-before_end : (f : Function) (b n x : ℕ) → is_in x (results_before f b n) ≡ true → is_in x (results_in f b) ≡ true
+pub before_end : (f : Function) (b n x : ℕ) → is_in x (results_before f b n) ≡ true → is_in x (results_in f b) ≡ true
 before_end f b n x = by (slice_get f.blocks b)
   where
     by : (o : Option Block) → is_in x (elim o [ None ↦ [] | Some block ↦ phi_ids block ++ inst_ids (take n block.insts) ]) ≡ true →
@@ -62,7 +62,7 @@ before_end f b n x = by (slice_get f.blocks b)
     ]
 
 -- a name that is defined over some blocks is defined over more of them
-passed_more : (f : Function) (c : ℕ) (passed : List ℕ) (x : ℕ) → defined_over f passed x ≡ true → defined_over f (c ∷ passed) x ≡ true
+pub passed_more : (f : Function) (c : ℕ) (passed : List ℕ) (x : ℕ) → defined_over f passed x ≡ true → defined_over f (c ∷ passed) x ≡ true
 passed_more f c passed x t =
     let here = is_in x (results_in f c) in
     let earlier = list_any (λ d. is_in x (results_in f d)) passed in
@@ -71,7 +71,7 @@ passed_more f c passed x t =
       | inr r ↦ or_right (is_parameter f x) (here || earlier) (or_right here earlier r)
     ]
 
-passed_here : (f : Function) (c : ℕ) (passed : List ℕ) (x : ℕ) → is_in x (results_in f c) ≡ true → defined_over f (c ∷ passed) x ≡ true
+pub passed_here : (f : Function) (c : ℕ) (passed : List ℕ) (x : ℕ) → is_in x (results_in f c) ≡ true → defined_over f (c ∷ passed) x ≡ true
 passed_here f c passed x t =
     let earlier = list_any (λ d. is_in x (results_in f d)) passed in
     or_right (is_parameter f x) (is_in x (results_in f c) || earlier) (or_left (is_in x (results_in f c)) earlier t)

@@ -73,7 +73,7 @@ module _ (f : Function) (defined : Defined f) (b : ℕ) (block : Block) (there :
   whole = uses_of_block (UseIsDefined f) f 0 b f.blocks b block (omega arith) (recursion_from_All (UseIsDefined f) (uses_from f 0 f.blocks) defined) there
 
   -- an operand of a phi is defined at the end of its predecessor
-  entry_defined : (j k : ℕ) (phi : Phi) (e : Operand × BlockId) (n : ℕ) → slice_get block.phis j ≡ Some phi → slice_get phi.entries k ≡ Some e →
+  pub entry_defined : (j k : ℕ) (phi : Phi) (e : Operand × BlockId) (n : ℕ) → slice_get block.phis j ≡ Some phi → slice_get phi.entries k ≡ Some e →
       is_in n (operand_names e.0) ≡ true → IsDefinedAt f e.1.0 (line_count f e.1.0) n
   entry_defined j k phi e n phi_at entry_at t =
       let phis = all_left (UseIsDefined f) (flat_map (phi_uses f) block.phis) (inst_uses f b 0 block.insts ++ uses_at b (length block.insts) (term_names block.term)) whole in

@@ -41,6 +41,7 @@ use Rattle.vfa_rewrite.specs.Marks.{Becomes, IsPut, HasEffect, IsGone, IsLeftLin
 use Rattle.vfa_rewrite.proofs.Left.{made_at}
 use Rattle.vfa_rewrite.proofs.Agreement.{both_results}
 use Rattle.vfa_rewrite.proofs.Becoming.{becomes_typed}
+use Rattle.vfa_rewrite.proofs.FreshNames.{has_result, first_second, fresh_new, fresh_typed}
 use Rattle.vfa_rewrite.proofs.Narrowing.{IsApart, narrowed_comes, narrowed_allowed, narrowed_typed, narrowed_plain}
 use Rattle.vfa_rewrite.proofs.Operations.{kept_operand, put_stands, operands_agree, result_allowed, result_typed, AllowsResult-trans}
 use Rattle.vfa_rewrite.proofs.Ranges.{result_below, same_type, typed_value}
@@ -108,7 +109,7 @@ call_has_effect (Op.Part w pair index) u e = absurd (cc)
 call_has_effect (Op.Assume c) u e = absurd (cc)
 call_has_effect (Op.Call w call) u e = tt
 
-assume_has_no_result : (m : Marks) (op : Op) (result : Option ValueId) → IsAssume op → HasItsResult op result → ResultIsKept m result → ⊥
+pub assume_has_no_result : (m : Marks) (op : Op) (result : Option ValueId) → IsAssume op → HasItsResult op result → ResultIsKept m result → ⊥
 assume_has_no_result m (Op.Assume c) None is has kept = kept
 assume_has_no_result m (Op.Assume c) (Some v) is has kept = has
 assume_has_no_result m (Op.Bin bin flags w a b) result is has kept = is
@@ -122,13 +123,17 @@ assume_has_no_result m (Op.Over over w a b) result is has kept = is
 assume_has_no_result m (Op.Part w pair index) result is has kept = is
 assume_has_no_result m (Op.Call w call) result is has kept = is
 
--- a result that is kept is of a name
-record KeptResult (m : Marks) (result : Option ValueId) : Type 0 where
-  name : ValueId
-  is : result ≡ Some name
-  kept : m.keeps name.0 ≡ true
+-- the names among the arguments of a call
+abbrev pub names_in : Option CallOp → List ℕ
+names_in o = elim o [ None ↦ [] | Some c ↦ flat_map (λ (a : CallArg). operand_names a.value) c.args ]
 
-kept_result : (m : Marks) (result : Option ValueId) → ResultIsKept m result → KeptResult m result
+-- a result that is kept is of a name
+pub record KeptResult (m : Marks) (result : Option ValueId) : Type 0 where
+  pub name : ValueId
+  pub is : result ≡ Some name
+  pub kept : m.keeps name.0 ≡ true
+
+pub kept_result : (m : Marks) (result : Option ValueId) → ResultIsKept m result → KeptResult m result
 kept_result m None h = absurd h
 kept_result m (Some name) h = record { name = name; is = refl; kept = h }
 
@@ -262,15 +267,19 @@ module _ (f : Function) (printable : IsPrintable f) (typed : Typed f) (defined :
         let operands = subst (λ c. AllByRecursion (IsPut f found (At b i) (m.put (At b i))) (operands_of f (operation_of c inst.op))) e marked.operands in
         let kept : (n : ℕ) → is_in n (op_names (rewritten f m) (with_operands (m.put (At b i)) (Op.Bin bin flags w x y))) ≡ true → m.keeps n ≡ true =
         λ n uses. used_kept stays n (subst (λ c. is_in n (op_names (rewritten f m) (with_operands (m.put (At b i)) (operation_of c inst.op))) ≡ true) (sym e) uses) in
-        let fresh = own.fresh i inst (Op.Bin bin flags w x y) v left.line.stands left.met e in
+        let has = (each_of (PrintableInst f) block.insts i inst (each_of (PrintableBlock f) f.blocks b block printable.blocks left.line.there).insts left.line.stands).result in
+        let of = has_result inst.op inst.result w v has plain holding.fits.0 holding.fits.2 holding.fits.3 in
+        let new = fresh_new f printable found m marks b block i inst left of.name of.is (Op.Bin bin flags w x y) v e in
+        let is_apart = first_second f printable found m marks b block i inst left of.name of.is (Op.Bin bin flags w x y) v e in
+        let of_type = fresh_typed f printable found m marks b block i inst left of.name of.is (Op.Bin bin flags w x y) v e in
         let y' = m.put (At b i) y in
         let apart_y = below_apart f (Ty.Int w) y' (m.fresh b i 0)
-        (becomes_typed f printable defined found holds (At b i) (Ty.Int w) y y' operands.1.0 holding.usable.1.is_type holding.usable.1.typed) (fresh.new 0) in
+        (becomes_typed f printable defined found holds (At b i) (Ty.Int w) y y' operands.1.0 holding.usable.1.is_type holding.usable.1.typed) (new 0) in
         record {
           operations = narrowed_plain (m.fresh b i) v inst.result bin flags w (m.put (At b i) x) y';
           allows = λ env env' end moment agrees comes.
               let agree = operands_agree f printable defined found holds m (At b i) (m.put (At b i)) env env' moment agrees (Op.Bin bin flags w x y) refl holding.usable operands kept in
-              let came = narrowed_comes f m bin flags w v holding.fits.1 holding.fits.2 holding.fits.3 (m.fresh b i) (λ k. unused (m.fresh b i k) (fresh.new k)) fresh.typed fresh.first_second
+              let came = narrowed_comes f m bin flags w v holding.fits.1 holding.fits.2 holding.fits.3 (m.fresh b i) (λ k. unused (m.fresh b i k) (new k)) of_type is_apart
               inst.result env end (m.put (At b i) x) y' env' agrees agree.values.first agree.values.second apart_y comes in
               let given = narrowed_allowed w v holding.fits.1 holding.fits.2 holding.fits.3 f bin flags (operand_value env x) (operand_value env y)
               (operand_value env' (m.put (At b i) x)) (operand_value env' y') came.given agree.a agree.b agree.values.first agree.values.second came.gives in
@@ -279,7 +288,7 @@ module _ (f : Function) (printable : IsPrintable f) (typed : Typed f) (defined :
               (AllowsResult-trans was.result given.result came.given was.allows given.allows)
               (λ q same. subst (λ t. IsValueOf t q) (sym holding.fits.0)
               (narrowed_typed bin flags w v holding.fits.1 holding.fits.2 holding.fits.3 (operand_value env' (m.put (At b i) x)) (operand_value env' y') q
-              agree.values.first agree.values.second (subst (λ r. NarrowedGives bin flags v w (operand_value env' (m.put (At b i) x)) (operand_value env' y') r) same came.gives)))
+              agree.values.first agree.values.second (subst (λ r. NarrowedGives bin flags v w (operand_value env' (m.put (At b i) x)) (operand_value env' y') r) {x = came.given} same came.gives)))
               came.comes;
         }
 
@@ -342,9 +351,6 @@ module _ (f : Function) (printable : IsPrintable f) (typed : Typed f) (defined :
               (λ n t. live n (in_right n (operand_names a.value) names t)) operands.1
               (λ n t. kept n (in_right n (operand_names (m.put_call k a.value)) names' t)),
         )
-
-    abbrev names_in : Option CallOp → List ℕ
-    names_in o = elim o [ None ↦ [] | Some c ↦ flat_map (λ (a : CallArg). operand_names a.value) c.args ]
 
     call_stands : CallStands f m b i inst k call
     call_stands =

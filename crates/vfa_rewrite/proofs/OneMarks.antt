@@ -1,4 +1,4 @@
--- Two marks of the same true findings leave the same.
+-- Two marks of the same findings mark alike what is left.
 use Rattle.std.proofs.Common.{◌≡◌, ℕ, zero, suc, Bool, true, false, Option, Some, None, List, [], ◌∷◌, map, flat_map, length, slice_get, refl, sym, ap, ◌∙◌, subst, inl, inr}
 use Rattle.std.proofs.lemmas.Bool.{cases_Bool}
 use Rattle.std.specs.List.{AllByRecursion}
@@ -21,16 +21,35 @@ use Rattle.vfa_ir.specs.Words.{is_in}
 use Rattle.vfa_mean.specs.FreshOperands.{DefinesOnce}
 use Rattle.vfa_mean.specs.Moments.{Place, Into, At, is_call}
 use Rattle.vfa_rules.specs.declared.change.Change.{Change}
-use Rattle.vfa_rewrite.specs.Alike.{LinesAreAlike, AreAlike}
 use Rattle.vfa_rewrite.specs.Rewritten.{Marks, with_numbers, with_operands, argument_left, call_left, shrunk, two_ways, one_way, many_ways, cases_left, term_if_met, term_left, edges_from, if_reached, edges_of, rewritten}
-use Rattle.vfa_rewrite.specs.Findings.{Findings, operation_of, AreTrue}
+use Rattle.vfa_rewrite.specs.Findings.{Findings, operation_of, AreFitting}
 use Rattle.vfa_rewrite.specs.Marks.{Becomes, IsPut, term_operands, Kept, by_end, by_effect, by_line, by_phi, IsLeftLine, UsesName, ResultIsKept, LineIsMarked, EntryIsMarked, BlockIsMarked, AreMarks}
-use Rattle.vfa_rewrite.proofs.KeptNames.{names_in, changed_plain}
+use Rattle.vfa_rewrite.proofs.KeptNames.{changed_plain}
 use Rattle.vfa_rewrite.proofs.Left.{made_at}
 use Rattle.vfa_rewrite.proofs.Lines.{call_tells}
 use Rattle.vfa_rewrite.proofs.MarkedBlocks.{at_all}
-use Rattle.vfa_rewrite.proofs.MarkedLines.{put_plain}
+use Rattle.vfa_rewrite.proofs.MarkedLines.{names_in, put_plain}
 use Rattle.vfa_rewrite.proofs.OneOperand.{becomes_one}
+
+-- ---- what is alike
+
+-- the same becomes of an instruction that is left
+pub record LinesAreAlike (found : Findings) (m m' : Marks) (b i : ℕ) (inst : Inst) : Type 0 where
+  pub stays : m.stays b i ≡ m'.stays b i
+  pub change : m.change b i ≡ m'.change b i
+  pub operands : with_operands (m.put (At b i)) (operation_of (found.change b i inst) inst.op) ≡ with_operands (m'.put (At b i)) (operation_of (found.change b i inst) inst.op)
+
+pub record AreAlike (f : Function) (found : Findings) (m m' : Marks) : Type 0 where
+  pub met : (b i : ℕ) → m.met b i ≡ m'.met b i
+  pub left : (b k : ℕ) → m.left b k ≡ m'.left b k
+  pub reached : (b : ℕ) → m.reached b ≡ m'.reached b
+  pub keeps : (n : ℕ) → m.keeps n ≡ m'.keeps n
+  pub edges : (b p : ℕ) → edges_of f m b p ≡ edges_of f m' b p
+  pub entries : (b : ℕ) (block : Block) (j : ℕ) (phi : Phi) (k : ℕ) (e : Operand × BlockId) → slice_get f.blocks b ≡ Some block → m.reached b ≡ true →
+      slice_get block.phis j ≡ Some phi → slice_get phi.entries k ≡ Some e → (edges_of f m b e.1.0 ≡ 0 → ⊥) →
+      m.put (Into (Some e.1.0) b) e.0 ≡ m'.put (Into (Some e.1.0) b) e.0
+  pub lines : (b : ℕ) (block : Block) (i : ℕ) (inst : Inst) → IsLeftLine f m b block i inst → LinesAreAlike found m m' b i inst
+  pub terms : (b : ℕ) (block : Block) → slice_get f.blocks b ≡ Some block → m.reached b ≡ true → term_left m b block ≡ term_left m' b block
 
 pub same_bool : (s t : Bool) → (s ≡ true → t ≡ true) → (t ≡ true → s ≡ true) → s ≡ t
 same_bool true t h k = sym (h refl)
@@ -57,7 +76,7 @@ none_made make i [] n h = refl
 none_made make i (x ∷ xs) zero h = absurd (cc)
 none_made make i (x ∷ xs) (suc n) h = none_made make (suc i) xs n h
 
-module _ (f : Function) (once : DefinesOnce f) (found : Findings) (holds : AreTrue f found) where
+module _ (f : Function) (once : DefinesOnce f) (found : Findings) (holds : AreFitting f found) where
   module _ (place : Place) (put put' : Operand → Operand) where
     one_operand : (ty : Ty) (a : Operand) → Becomes f found place ty a (put a) → Becomes f found place ty a (put' a) → put a ≡ put' a
     one_operand ty a is is' = becomes_one f once found place ty a (put a) (put' a) is is'
@@ -82,7 +101,7 @@ module _ (f : Function) (once : DefinesOnce f) (found : Findings) (holds : AreTr
     operands_one (Op.Assume c) is is' = let p = one_operand (Ty.Int 1) c is.0 is'.0 in λ j. Op.Assume (p j)
     operands_one (Op.Call w call) is is' = refl
 
-    args_one : (change change' : Operand → Operand) → ((a : Operand) → change a ≡ put a) → ((a : Operand) → change' a ≡ put' a) → (args : List CallArg) →
+    pub args_one : (change change' : Operand → Operand) → ((a : Operand) → change a ≡ put a) → ((a : Operand) → change' a ≡ put' a) → (args : List CallArg) →
         AllByRecursion (IsPut f found place put) (map (λ (a : CallArg). (Ty.Int a.width, a.value)) args) →
         AllByRecursion (IsPut f found place put') (map (λ (a : CallArg). (Ty.Int a.width, a.value)) args) →
         map (argument_left change) args ≡ map (argument_left change') args
@@ -103,7 +122,7 @@ module _ (f : Function) (once : DefinesOnce f) (found : Findings) (holds : AreTr
     reached_one : (b : ℕ) → m.reached b ≡ m'.reached b
     reached_one b = same_bool (m.reached b) (m'.reached b) (λ h. (marks'.reached b).1 ((marks.reached b).0 h)) (λ h. (marks.reached b).1 ((marks'.reached b).0 h))
 
-    edges_one : (b p : ℕ) → edges_of f m b p ≡ edges_of f m' b p
+    pub edges_one : (b p : ℕ) → edges_of f m b p ≡ edges_of f m' b p
     edges_one b p =
         let left : m.left p ≡ m'.left p = λ j k. left_one p k j in
         let count : (ℕ → Bool) → ℕ = λ l. elim (slice_get f.blocks p) [ None ↦ 0 | Some block ↦ edges_from l b 0 (targets block.term) ] in
@@ -151,13 +170,13 @@ module _ (f : Function) (once : DefinesOnce f) (found : Findings) (holds : AreTr
           becomes_one f once found (Into (Some e.1.0) b) (Ty.Int phi.width) e.0 (m.put (Into (Some e.1.0) b) e.0) (m'.put (Into (Some e.1.0) b) e.0) is is'
 
     module _ (b : ℕ) (block : Block) (i : ℕ) (inst : Inst) (left : IsLeftLine f m b block i inst) where
-      left' : IsLeftLine f m' b block i inst
+      pub left' : IsLeftLine f m' b block i inst
       left' = record { line = left.line; reached = sym (reached_one b) ∙ left.reached; met = sym (met_one b i) ∙ left.met }
 
-      marked : LineIsMarked f found m b i inst
+      pub marked : LineIsMarked f found m b i inst
       marked = (marks.blocks b block left.line.there left.reached).lines i inst left.line.stands left.met
 
-      marked' : LineIsMarked f found m' b i inst
+      pub marked' : LineIsMarked f found m' b i inst
       marked' = (marks'.blocks b block left.line.there left'.reached).lines i inst left.line.stands left'.met
 
       abbrev op : Op

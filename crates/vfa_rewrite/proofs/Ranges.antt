@@ -89,7 +89,7 @@ module _ (f : Function) (printable : IsPrintable f) where
 
 -- ---- types
 
-abbrev type_at : Option Value → Ty
+abbrev pub type_at : Option Value → Ty
 type_at o = option_map_or (λ (value : Value). value.ty) o (Ty.Int 1)
 
 pub same_type : (f : Function) (m : Marks) (n : ℕ) → n < length f.values → name_type (rewritten f m) n ≡ name_type f n

@@ -1,13 +1,14 @@
 -- What was found out about a function before it is rewritten, at each place that runs may come to, and when it is true.
 -- Whoever finds it out answers for it; here stands only what is asked.
-use Rattle.std.specs.Prelude.{ℕ, ◌≡◌, ◌<◌, ◌⊎◌, Bool, true, false, Some, length, slice_get, ⊤}
+use Rattle.std.specs.Prelude.{ℕ, suc, ◌≡◌, ◌<◌, ◌⊎◌, Bool, true, false, Some, length, slice_get, ⊤}
 use Rattle.vfa_ir.specs.declared.operations.Op.{Op}
 use Rattle.vfa_ir.specs.declared.operations.Operand.{Operand}
 use Rattle.vfa_ir.specs.declared.operations.Ty.{Ty}
 use Rattle.vfa_ir.specs.declared.functions.Block.{Block}
 use Rattle.vfa_ir.specs.declared.functions.Function.{Function}
 use Rattle.vfa_ir.specs.declared.functions.Inst.{Inst}
-use Rattle.vfa_ir.specs.Printable.{op_type}
+use Rattle.vfa_ir.specs.Defined.{line_count}
+use Rattle.vfa_ir.specs.Printable.{PrintableInst, op_type}
 use Rattle.vfa_ir.specs.Typed.{HasType}
 use Rattle.vfa_word.specs.Numbers.{IsWidth}
 use Rattle.vfa_mean.specs.declared.value.Val.{Val}
@@ -20,6 +21,7 @@ use Rattle.vfa_values.specs.Conditions.{IsType}
 use Rattle.vfa_mean.specs.Values.{Env, IsValueOf, AllowsValue, operand_value}
 use Rattle.vfa_rules.specs.declared.change.Change.{Change}
 use Rattle.vfa_rules.specs.Results.{NarrowGives, IsAllowed, AllowsUses}
+use Rattle.vfa_rewrite.specs.Rewritten.{line_of}
 
 -- what is known of an operand at a place: it is one number or poison; it has no number, so it is poison; or nothing
 pub data Decision : Type 0 where
@@ -122,6 +124,32 @@ pub record ChangeHolds (f : Function) (place : Place) (op : Op) (change : Change
 abbrev pub ChangesHold : Function → Findings → Type 0
 ChangesHold f found = (b : ℕ) (block : Block) (i : ℕ) (inst : Inst) → IsLine f b block i inst → found.met b i ≡ true → is_call inst.op ≡ false →
     ChangeHolds f (At b i) inst.op (found.change b i inst)
+
+-- ---- what fits
+
+-- what a change keeps to, whether or not the facts that it was made by are true
+pub record ChangeFits (f : Function) (place : Place) (op : Op) (change : Change) : Type 0 where
+  pub fits : IsFitting f op change
+  pub usable : AreUsable f place (operation_of change op)
+
+-- each instruction after a change may be printed: flags are such as its operation may have, and it has a result where it had one
+abbrev pub ChangesPrint : Function → Findings → Type 0
+ChangesPrint f found = (b : ℕ) (block : Block) (i : ℕ) (inst : Inst) → IsLine f b block i inst → found.met b i ≡ true → is_call inst.op ≡ false →
+    PrintableInst f (line_of inst.result (operation_of (found.change b i inst) inst.op))
+
+-- What findings keep to, whether or not they are true: numbers are of the operand's type, changes fit and may be printed, the
+-- places that runs may come to stand at the front of a block, and edges are left behind a terminator that is met.
+pub record AreFitting (f : Function) (found : Findings) : Type 0 where
+  pub of_type : (place : Place) (ty : Ty) (a : Operand) → IsType ty → IsTypedOperand f ty a → IsDecisionOf ty (found.decision place ty a)
+  pub change : (b : ℕ) (block : Block) (i : ℕ) (inst : Inst) → IsLine f b block i inst → found.met b i ≡ true → is_call inst.op ≡ false →
+      ChangeFits f (At b i) inst.op (found.change b i inst)
+  pub prints : ChangesPrint f found
+  -- a call is kept
+  pub call : (b : ℕ) (block : Block) (i : ℕ) (inst : Inst) → IsLine f b block i inst → is_call inst.op ≡ true → found.change b i inst ≡ Change.Keep inst.op
+  pub met_before : (b i : ℕ) → i < line_count f b → found.met b (suc i) ≡ true → found.met b i ≡ true
+  pub left_behind : (b k : ℕ) → found.left b k ≡ true → found.met b (line_count f b) ≡ true
+
+-- ---- what is true
 
 pub record AreTrue (f : Function) (found : Findings) : Type 0 where
   pub met : (b i : ℕ) (env : Env) → Moment f (At b i) env → found.met b i ≡ true

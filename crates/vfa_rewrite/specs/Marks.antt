@@ -1,5 +1,5 @@
 -- The marks that what was found out gives: each rule of rewriting by facts (LLVM's CorrelatedValuePropagation).
-use Rattle.std.specs.Prelude.{ℕ, ◌≡◌, ◌<◌, ◌≤◌, ◌↔◌, ◌⊎◌, Bool, true, Option, Some, None, List, [], ◌∷◌, length, slice_get, ⊤}
+use Rattle.std.specs.Prelude.{ℕ, ◌+◌, ◌*◌, ◌≡◌, ◌<◌, ◌↔◌, ◌⊎◌, Bool, true, Option, Some, None, List, [], ◌∷◌, length, slice_get, ⊤}
 use Rattle.std.specs.List.{AllByRecursion}
 use Rattle.vfa_ir.specs.declared.operations.BlockId.{BlockId}
 use Rattle.vfa_ir.specs.declared.operations.Op.{Op}
@@ -11,13 +11,13 @@ use Rattle.vfa_ir.specs.declared.functions.Function.{Function}
 use Rattle.vfa_ir.specs.declared.functions.Inst.{Inst}
 use Rattle.vfa_ir.specs.declared.functions.Phi.{Phi}
 use Rattle.vfa_ir.specs.declared.functions.Term.{Term}
+use Rattle.vfa_ir.specs.declared.functions.Value.{Value}
 use Rattle.vfa_ir.specs.Defined.{op_names, operand_names, term_names}
 use Rattle.vfa_ir.specs.Operands.{operands_of}
 use Rattle.vfa_ir.specs.PhisFit.{targets}
 use Rattle.vfa_ir.specs.Words.{is_in}
 use Rattle.vfa_mean.specs.Moments.{Place, Into, At, IsLine}
 use Rattle.vfa_mean.specs.Outcomes.{first_block}
-use Rattle.vfa_cond.specs.Conditions.{name_type}
 use Rattle.vfa_rewrite.specs.Findings.{OneNumber, NoNumber, Undecided, Findings, operation_of}
 use Rattle.vfa_rules.specs.declared.change.Change.{Change}
 use Rattle.vfa_rewrite.specs.Rewritten.{Marks, with_operands, term_left, edges_of, rewritten}
@@ -36,6 +36,12 @@ pub record IsReplaced (f : Function) (found : Findings) (n : ℕ) (u : Operand) 
   pub same : name.0 ≡ n
   pub uses : found.change b i inst ≡ Change.Uses u
 
+-- no operand takes the place of this one
+abbrev pub HasNoOther : Function → Findings → Operand → Type 0
+HasNoOther f found (Operand.Value n) = (u : Operand) → IsReplaced f found n.0 u → ⊥
+HasNoOther f found (Operand.Literal x) = ⊤
+HasNoOther f found Operand.Poison = ⊤
+
 -- ---- operands: what an operand of a type becomes at a place that a run may come to
 
 -- In `%a = and i8 %x, 15`, `%b = and i8 %a, 31`, `ret i8 %b` the uses of %b become %a, since the second `and` drops nothing; so
@@ -48,8 +54,7 @@ pub data Becomes (f : Function) (found : Findings) (place : Place) (ty : Ty) : O
   no_number : (a : Operand) → found.decision place ty a ≡ NoNumber → Becomes f found place ty a Operand.Poison
   replaced : (n : ValueId) (u a' : Operand) → found.decision place ty (Operand.Value n) ≡ Undecided → IsReplaced f found n.0 u →
       Becomes f found place ty u a' → Becomes f found place ty (Operand.Value n) a'
-  stays : (n : ValueId) → found.decision place ty (Operand.Value n) ≡ Undecided → ((u : Operand) → IsReplaced f found n.0 u → ⊥) →
-      Becomes f found place ty (Operand.Value n) (Operand.Value n)
+  stays : (a : Operand) → found.decision place ty a ≡ Undecided → HasNoOther f found a → Becomes f found place ty a a
 
 -- an operand of integer type; the pair of an `extractvalue` stays
 abbrev pub IsPut : Function → Findings → Place → (Operand → Operand) → Ty × Operand → Type 0
@@ -134,19 +139,66 @@ pub record LineIsMarked (f : Function) (found : Findings) (m : Marks) (b i : ℕ
 pub record EntryIsMarked (f : Function) (found : Findings) (m : Marks) (b width : ℕ) (e : Operand × BlockId) : Type 0 where
   pub put : (edges_of f m b e.1.0 ≡ 0 → ⊥) → Becomes f found (Into (Some e.1.0) b) (Ty.Int width) e.0 (m.put (Into (Some e.1.0) b) e.0)
 
--- names that narrowing adds: each is new, and of the lesser width
-pub record AreFresh (f : Function) (m : Marks) (b i v : ℕ) : Type 0 where
-  pub first_second : m.fresh b i 0 ≡ m.fresh b i 1 → ⊥
-  pub new : (k : ℕ) → length f.values ≤ m.fresh b i k
-  pub typed : (k : ℕ) → k < 3 → name_type (rewritten f m) (m.fresh b i k) ≡ Ty.Int v
+-- The names that narrowing adds for a division with result n stand behind all names of the function: in one of 5 values those
+-- for %3 are 14, the first operand at the lesser width, 15, the second, and 16, the result.
+abbrev pub fresh_name : Function → ℕ → ℕ → ℕ
+fresh_name f n k = length f.values + 3 * n + k
+
+pub record AreFresh (f : Function) (m : Marks) (b i n : ℕ) : Type 0 where
+  pub fresh : (k : ℕ) → m.fresh b i k ≡ fresh_name f n k
 
 pub record BlockIsMarked (f : Function) (found : Findings) (m : Marks) (b : ℕ) (block : Block) : Type 0 where
   pub phis : AllByRecursion (λ (phi : Phi). AllByRecursion (EntryIsMarked f found m b phi.width) phi.entries) block.phis
   pub lines : (i : ℕ) (inst : Inst) → slice_get block.insts i ≡ Some inst → m.met b i ≡ true → LineIsMarked f found m b i inst
-  pub fresh : (i : ℕ) (inst : Inst) (op : Op) (v : ℕ) → slice_get block.insts i ≡ Some inst → m.met b i ≡ true → found.change b i inst ≡ Change.Narrow op v →
-      AreFresh f m b i v
+  pub fresh : (i : ℕ) (inst : Inst) (name : ValueId) (op : Op) (v : ℕ) → slice_get block.insts i ≡ Some inst → m.met b i ≡ true → inst.result ≡ Some name →
+      found.change b i inst ≡ Change.Narrow op v → AreFresh f m b i name.0
   pub term : m.met b (length block.insts) ≡ true →
       AllByRecursion (IsPut f found (At b (length block.insts)) (m.put (At b (length block.insts)))) (term_operands block.term)
+
+-- ---- names that narrowing adds
+
+-- an instruction of a block that is left, which a run may come to, gives the name, and is narrowed to width v
+pub record IsNarrowed (f : Function) (found : Findings) (m : Marks) (n v : ℕ) : Type 0 where
+  pub b : ℕ
+  pub i : ℕ
+  pub block : Block
+  pub inst : Inst
+  pub name : ValueId
+  pub op : Op
+  pub left : IsLeftLine f m b block i inst
+  pub result : inst.result ≡ Some name
+  pub same : name.0 ≡ n
+  pub narrows : found.change b i inst ≡ Change.Narrow op v
+
+-- the type of the names that are added for n; where nothing is narrowed they stand for nothing, and are of type i1
+pub data AddedType (f : Function) (found : Findings) (m : Marks) (n : ℕ) : Ty → Type 0 where
+  at_width : (v : ℕ) → IsNarrowed f found m n v → AddedType f found m n (Ty.Int v)
+  not_narrowed : ((v : ℕ) → IsNarrowed f found m n v → ⊥) → AddedType f found m n (Ty.Int 1)
+
+-- a value without a name in the text
+abbrev pub unnamed : Ty → Value
+unnamed ty = record { name = None; ty = ty }
+
+pub record IsAdded (f : Function) (found : Findings) (m : Marks) (n k : ℕ) : Type 0 where
+  pub ty : Ty
+  pub is_type : AddedType f found m n ty
+  pub stands : slice_get m.added (3 * n + k) ≡ Some (unnamed ty)
+
+pub record AreAdded (f : Function) (found : Findings) (m : Marks) : Type 0 where
+  pub count : length m.added ≡ 3 * length f.values
+  pub each : (n k : ℕ) → n < length f.values → k < 3 → IsAdded f found m n k
+
+-- ---- calls
+
+-- an instruction of a block that is left, which a run may come to, makes the call
+pub record IsLeftCall (f : Function) (m : Marks) (k : ℕ) : Type 0 where
+  pub b : ℕ
+  pub i : ℕ
+  pub block : Block
+  pub inst : Inst
+  pub width : Option ℕ
+  pub left : IsLeftLine f m b block i inst
+  pub calls : inst.op ≡ Op.Call width k
 
 pub record AreMarks (f : Function) (found : Findings) (m : Marks) : Type 0 where
   pub met : (b i : ℕ) → m.met b i ≡ found.met b i
@@ -154,3 +206,6 @@ pub record AreMarks (f : Function) (found : Findings) (m : Marks) : Type 0 where
   pub reached : (b : ℕ) → (m.reached b ≡ true) ↔ Reached f found b
   pub keeps : (n : ℕ) → (m.keeps n ≡ true) ↔ Kept f found m n
   pub blocks : (b : ℕ) (block : Block) → slice_get f.blocks b ≡ Some block → m.reached b ≡ true → BlockIsMarked f found m b block
+  pub added : AreAdded f found m
+  -- a call that no instruction left makes keeps its arguments
+  pub calls : (k : ℕ) → (IsLeftCall f m k → ⊥) → (a : Operand) → m.put_call k a ≡ a

@@ -157,7 +157,8 @@ abbrev pub last_target : ℕ × BlockId → List (ℕ × BlockId) → BlockId
 last_target e [] = e.1
 last_target e (d ∷ rest) = last_target d rest
 
--- A switch keeps its cases that are left: of the cases 1, 2 and 3, of which 1 and 3 are left, these two. Where its other edge, of number 0, is gone, the last of them becomes the other one.
+-- A switch keeps its cases that are left: of the cases 1, 2 and 3, of which 1 and 3 are left, these two. Where its other edge, of
+-- number 0, is gone, the last of them becomes the other one.
 abbrev pub many_ways : Bool → ℕ → Operand → BlockId → List (ℕ × BlockId) → Term
 many_ways true w on other [] = Term.Br other
 many_ways true w on other (e ∷ cases) = Term.Switch w on other (e ∷ cases)

@@ -5,6 +5,7 @@
 mod laws;
 
 pub use laws::{
-    findings_are_true, marks_are_one, marks_are_sound, rewriting_by_facts_refines,
-    rewriting_by_the_table_refines, rewriting_refines,
+    chains_end, findings_are_true, findings_fit, fitting_marks_leave_checked, marks_are_one,
+    marks_are_sound, one_rewritten, rewriting_by_facts_refines, rewriting_by_the_table_refines,
+    rewriting_refines, rewritten_is_checked,
 };

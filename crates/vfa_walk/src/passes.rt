@@ -375,6 +375,7 @@ pub fn pass<V: Values>(
         kept_in_order l.order p.next b ≡ pass_next (flow_of V.answers f.now l) (kept_in_order l.order heads.now) b) }
     ensures states { IfOk result (λ p. AreStates V.ty V.proper f.now p.table × AreStates V.ty V.proper f.now p.next) }
     ensures each { IfOk result (λ p. length p.next ≡ length heads.now) }
+    ensures count { IfOk result (λ p. length p.table ≡ length f.now.blocks) }
 {
     let function = ready(f);
     let order = f.order();

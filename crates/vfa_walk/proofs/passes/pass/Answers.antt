@@ -51,3 +51,6 @@ returns-clause-states g c =
       subst (λ h. AreStates g.V.Values.ty g.V.Values.proper h c.in_ok-found.found.table) same c.in_ok-found.ensures.states,
       subst (λ h. AreStates g.V.Values.ty g.V.Values.proper h c.in_ok-next.next.items) same c.in_ok-next.ensures.states,
     )
+
+pub returns-clause-count : goal.returns-clause-count
+returns-clause-count g c = subst (λ h. length c.in_ok-found.found.table ≡ length h.blocks) c.ready-function.ensures.same c.in_ok-found.ensures.count

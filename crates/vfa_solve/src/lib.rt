@@ -1,0 +1,7 @@
+//! The table of a function, by rounds.
+#![tactic(auto)]
+
+mod rounds;
+mod solving;
+
+pub use solving::solve;
