@@ -2,7 +2,6 @@
 use Rattle.std.proofs.Common.{◌≡◌, ℕ, zero, suc, Bool, true, false, nat_eq, List, Option, Some, None, refl, sym, ◌∙◌, ap}
 use Rattle.std.specs.Prelude.{if◌then◌else◌, slice_index_or}
 use Rattle.vfa_ir.specs.declared.operations.Operand.{Operand}
-use Rattle.vfa_ir.specs.declared.operations.ValueId.{ValueId}
 use Rattle.vfa_ir.specs.declared.functions.Function.{Function}
 use Rattle.vfa_bits.specs.Standing.{replacement, standing, zeroed}
 use Rattle.vfa_bits.specs.Tables.{AreReplacements, next_operand}

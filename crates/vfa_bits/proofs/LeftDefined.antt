@@ -23,8 +23,8 @@ use Rattle.vfa_mean.proofs.FreshOperands.Definitions.{or_cases, or_left, or_righ
 use Rattle.vfa_mean.proofs.FreshOperands.Walking.{use_is_defined}
 use Rattle.vfa_demand.specs.Masks.{result_mask}
 use Rattle.vfa_bits.specs.Standing.{put_for, standing, replacement}
-use Rattle.vfa_bits.specs.Used.{AreUsed, by_terminator, by_phi}
-use Rattle.vfa_bits.specs.Narrowed.{Choices, with_operands, lost_flags, has_changed, narrowed_cast, new_operation, new_line, new_entry, new_phi, with_operand, new_argument, is_reached_call, new_block, new_blocks, new_calls, rewritten, stays, block_left, left, AreReached}
+use Rattle.vfa_demand.specs.Used.{AreUsed, by_terminator, by_phi}
+use Rattle.vfa_bits.specs.Narrowed.{Choices, with_operands, lost_flags, has_changed, narrowed_cast, new_operation, new_line, new_entry, new_phi, with_operand, new_argument, is_reached_call, new_block, new_blocks, new_calls, rewritten, stays, block_left, left, AreReached, must_stay}
 use Rattle.vfa_bits.proofs.Chains.{Known, all_at, beside_names}
 use Rattle.vfa_bits.proofs.Kept.{same_successors}
 use Rattle.vfa_bits.proofs.LeftBlocks.{left_at, mapped_at, out_flat}
@@ -112,7 +112,7 @@ uses_flat : {A : Type 0} (P : NameUse → Type 0) (h : A → List NameUse) (xs :
 uses_flat P h [] each = tt
 uses_flat P h (x ∷ xs) each = uses_joined P (h x) (flat_map h xs) (each 0 x refl) (uses_flat P h xs (λ i y e. each (suc i) y e))
 
-module _ (f : Function) (masks : ℕ → ℕ) (by : Choices) (used : ℕ → Bool) (known : Known f masks by.changed) (are_reached : AreReached f by.reached) (are_used : AreUsed (rewritten f masks by) used) where
+module _ (f : Function) (masks : ℕ → ℕ) (by : Choices) (used : ℕ → Bool) (known : Known f masks by.changed) (are_reached : AreReached f by.reached) (are_used : AreUsed (rewritten f masks by) (must_stay (rewritten f masks by)) used) where
   abbrev g : Function
   g = left used (rewritten f masks by)
 

@@ -23,8 +23,8 @@ use Rattle.vfa_mean.proofs.FreshOperands.Definitions.{or_right, in_left, in_righ
 use Rattle.vfa_mean.proofs.KeptParts.{to_range}
 use Rattle.vfa_demand.specs.Rows.{needs_all}
 use Rattle.vfa_bits.specs.Standing.{put_for}
-use Rattle.vfa_bits.specs.Used.{by_terminator, by_phi, AreUsed}
-use Rattle.vfa_bits.specs.Narrowed.{Choices, new_operation, new_line, new_entry, new_phi, with_operand, new_block, new_blocks, rewritten, is_used, stays, block_left, left, AreReached}
+use Rattle.vfa_demand.specs.Used.{by_terminator, by_phi, AreUsed}
+use Rattle.vfa_bits.specs.Narrowed.{Choices, new_operation, new_line, new_entry, new_phi, with_operand, new_block, new_blocks, rewritten, is_used, stays, block_left, left, AreReached, must_stay}
 use Rattle.vfa_bits.proofs.Chains.{Known, all_at}
 use Rattle.vfa_bits.proofs.Kept.{all_kept, all_values, lost_place}
 use Rattle.vfa_bits.proofs.LeftBlocks.{left_block, left_at, mapped_at, out_flat, entry_types, left_printable, called_left, call_is}
@@ -89,7 +89,7 @@ names_left used r (Op.Part w pair index) = refl
 names_left used r (Op.Assume c) = refl
 names_left used r (Op.Call width place) = refl
 
-module _ (f : Function) (masks : ℕ → ℕ) (by : Choices) (used : ℕ → Bool) (known : Known f masks by.changed) (are_reached : AreReached f by.reached) (are_used : AreUsed (rewritten f masks by) used) where
+module _ (f : Function) (masks : ℕ → ℕ) (by : Choices) (used : ℕ → Bool) (known : Known f masks by.changed) (are_reached : AreReached f by.reached) (are_used : AreUsed (rewritten f masks by) (must_stay (rewritten f masks by)) used) where
   -- ---- a used name that the function defines is left
 
   pub phi_left : (phis : List Phi) (u : ℕ) → used u ≡ true → is_in u (map (λ (p : Phi). p.result.0) phis) ≡ true →

@@ -40,15 +40,15 @@ use Rattle.vfa_demand.specs.Masks.{IsPartOf, Have, ask_of, operand_asks, result_
 use Rattle.vfa_demand.specs.Rows.{all_bits, needs_all, asked}
 use Rattle.vfa_bits.specs.Standing.{put_for, standing}
 use Rattle.vfa_bits.specs.Changed.{name_type, is_short, has_unseen_sign, by_sign, by_operand, by_entry}
-use Rattle.vfa_bits.specs.Used.{by_terminator, by_need, by_result, by_phi, AreUsed}
-use Rattle.vfa_bits.specs.Narrowed.{Choices, with_operands, narrowed_cast, lost_flags, has_changed, new_operation, new_line, new_entry, new_phi, with_operand, new_block, new_blocks, is_reached_call, new_argument, new_call, new_calls, rewritten, is_used, stays, block_left, left, AreReached}
+use Rattle.vfa_demand.specs.Used.{by_terminator, by_need, by_result, by_phi, AreUsed}
+use Rattle.vfa_bits.specs.Narrowed.{Choices, with_operands, narrowed_cast, lost_flags, has_changed, new_operation, new_line, new_entry, new_phi, with_operand, new_block, new_blocks, is_reached_call, new_argument, new_call, new_calls, rewritten, is_used, stays, block_left, left, AreReached, must_stay}
 use Rattle.vfa_bits.proofs.Agreeing.{AgreesOn, allows_agrees, whole_allows}
 use Rattle.vfa_bits.proofs.AskedBits.{line_has, term_has, entry_has, name_asked, have_right}
 use Rattle.vfa_bits.proofs.Chains.{all_at, Known, IsDone, standing_agrees, standing_typed, standing_allows, whole_mask, line_printable, line_typed}
 use Rattle.vfa_bits.proofs.Lockstep.{GoesOn, StepsTo, ResultMeets, operation_goes, dropped_goes, CallMeets, call_goes, line_or, LineGoes, lines_go, ExitMeets, BlockMeets, in_step}
 use Rattle.vfa_bits.proofs.Operations.{asked_whole}
 use Rattle.std.proofs.lemmas.Option.{same_Some}
-use Rattle.vfa_bits.proofs.Places.{get_map, block_at, line_at, call_at, reached_call, new_entry_from, entry_cases, term_defined, entry_defined}
+use Rattle.vfa_bits.proofs.Places.{get_map, must_at, block_at, line_at, call_at, reached_call, new_entry_from, entry_cases, term_defined, entry_defined}
 use Rattle.vfa_bits.proofs.Related.{Tied, Fits, Related, ForName, for_name, IsTypedOperand, operand_fits}
 use Rattle.vfa_bits.proofs.ResultTypes.{line_type, phi_type}
 use Rattle.vfa_bits.proofs.Steps.{AtOperation, MarksRightly, Meets, SameShape, new_shape, some_in, is_operation, values_fit, operation_meets}
@@ -220,7 +220,7 @@ poison_stands : (f : Function) (masks : ℕ → ℕ) (n : ℕ) → standing f ma
 unfolding standing
 poison_stands f masks n = refl
 
-module _ (f : Function) (masks : ℕ → ℕ) (by : Choices) (used : ℕ → Bool) (known : Known f masks by.changed) (are_reached : AreReached f by.reached) (are_used : AreUsed (rewritten f masks by) used) where
+module _ (f : Function) (masks : ℕ → ℕ) (by : Choices) (used : ℕ → Bool) (known : Known f masks by.changed) (are_reached : AreReached f by.reached) (are_used : AreUsed (rewritten f masks by) (must_stay (rewritten f masks by)) used) where
   abbrev R : Place → Env → Env → Type 0
   R place env env' = Related f masks by.changed used place env env'
 
@@ -421,7 +421,7 @@ module _ (f : Function) (masks : ℕ → ℕ) (by : Choices) (used : ℕ → Boo
     -- what a line that stays uses is used
     pub used_names : stays used (new_line f masks by b inst) ≡ true → (x : ℕ) → is_in x (op_names (rewritten f masks by) (new_operation f masks by b inst)) ≡ true → used x ≡ true
     used_names stay x t = elim (or_cases (needs_all (new_operation f masks by b inst)) (is_used used inst.result) stay) [
-      | inl needs ↦ (are_used x).1 (by_need b (new_block f masks by b block) i (new_line f masks by b inst) x (line_at f masks by b block i inst line) needs t)
+      | inl needs ↦ (are_used x).1 (by_need b (new_block f masks by b block) i (new_line f masks by b inst) x (line_at f masks by b block i inst line) (must_at (rewritten f masks by) b (new_block f masks by b block) i (new_line f masks by b inst) (line_at f masks by b block i inst line) ∙ needs) t)
       | inr is ↦ named inst.result refl is
     ]
       where

@@ -20,12 +20,19 @@ use Rattle.vfa_mean.specs.Moments.{IsLine}
 use Rattle.vfa_mean.specs.Outcomes.{entry_from}
 use Rattle.vfa_mean.proofs.FreshOperands.Definitions.{or_left, or_right, first_or_rest, in_first, in_rest}
 use Rattle.vfa_bits.specs.Standing.{put_for, standing}
-use Rattle.vfa_bits.specs.Narrowed.{Choices, new_line, new_entry, new_block, new_blocks, is_reached_call, new_call, new_calls, rewritten}
+use Rattle.vfa_demand.specs.Rows.{needs_all}
+use Rattle.vfa_bits.specs.Narrowed.{Choices, must_stay, new_line, new_entry, new_block, new_blocks, is_reached_call, new_call, new_calls, rewritten}
 
 pub get_map : {A B : Type 0} (h : A → B) (xs : List A) (i : ℕ) (x : A) → slice_get xs i ≡ Some x → slice_get (map h xs) i ≡ Some (h x)
 get_map h [] i x e = absurd (cc)
 get_map h (y ∷ xs) zero x e = ap Some (ap h (same_Some y x e))
 get_map h (y ∷ xs) (suc i) x e = get_map h xs i x e
+
+-- what stands at the place of a line
+pub must_at : (f : Function) (b : ℕ) (block : Block) (i : ℕ) (inst : Inst) → IsLine f b block i inst → must_stay f b i ≡ needs_all inst.op
+must_at f b block i inst line =
+    ap (λ (o : Option Block). elim o [ None ↦ false | Some block ↦ elim (slice_get block.insts i) [ None ↦ false | Some inst ↦ needs_all inst.op ] ]) line.there
+    ∙ ap (λ (o : Option Inst). elim o [ None ↦ false | Some inst ↦ needs_all inst.op ]) line.stands
 
 module _ (f : Function) (masks : ℕ → ℕ) (by : Choices) where
   blocks_at : (blocks : List Block) (n m i : ℕ) (block : Block) → m ≡ n + i → slice_get blocks i ≡ Some block → slice_get (new_blocks f masks by n blocks) i ≡ Some (new_block f masks by m block)

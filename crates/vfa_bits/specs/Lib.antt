@@ -3,4 +3,3 @@ pub mod Narrowed
 pub mod Sizes
 pub mod Standing
 pub mod Tables
-pub mod Used

@@ -1,6 +1,6 @@
 -- A function narrowed by the bits that are asked for: operands that stand for the same bits, a `zext` in place of a `sext`
 -- whose sign nobody asks for, no flags where an operand may have changed, and no lines that nothing hangs on.
-use Rattle.std.specs.Prelude.{◌≡◌, ℕ, suc, Bool, true, false, ◌&&◌, ◌||◌, List, [], ◌∷◌, map, filter, Option, Some, None, if◌then◌else◌, ◌↔◌}
+use Rattle.std.specs.Prelude.{◌≡◌, ℕ, suc, Bool, true, false, ◌&&◌, ◌||◌, List, [], ◌∷◌, map, filter, Option, Some, None, slice_get, if◌then◌else◌, ◌↔◌}
 use Rattle.std.specs.List.{list_any}
 use Rattle.vfa_ir.specs.declared.operations.BlockId.{BlockId}
 use Rattle.vfa_ir.specs.declared.operations.Cast.{Cast}
@@ -21,9 +21,9 @@ use Rattle.vfa_ir.specs.Walks.{IsReached, is_in}
 use Rattle.vfa_mean.specs.Numbering.{each_number, numbered}
 use Rattle.vfa_demand.specs.Masks.{result_mask}
 use Rattle.vfa_demand.specs.Rows.{needs_all}
+use Rattle.vfa_demand.specs.Used.{AreUsed}
 use Rattle.vfa_bits.specs.Standing.{put_for}
 use Rattle.vfa_bits.specs.Changed.{AreChanged, has_unseen_sign}
-use Rattle.vfa_bits.specs.Used.{AreUsed}
 
 -- ---- an operation, with other operands; the pair of an `extractvalue` and the arguments of a call are no operands here
 
@@ -134,6 +134,13 @@ rewritten f masks by = record {
 
 -- ---- the lines that stay: those of used names, and all divisions, calls and assumptions
 
+-- whether such an instruction stands at this place of a block
+abbrev pub must_stay : Function → ℕ → ℕ → Bool
+must_stay f b i = elim (slice_get f.blocks b) [
+  | None ↦ false
+  | Some block ↦ elim (slice_get block.insts i) [ None ↦ false | Some inst ↦ needs_all inst.op ]
+]
+
 abbrev pub is_used : (ℕ → Bool) → Option ValueId → Bool
 is_used used None = false
 is_used used (Some v) = used v.0
@@ -174,5 +181,5 @@ pub record IsNarrowed (f : Function) (masks : ℕ → ℕ) (g : Function) : Type
   pub used : ℕ → Bool
   pub are_reached : AreReached f by.reached
   pub are_changed : AreChanged f masks by.changed
-  pub are_used : AreUsed (rewritten f masks by) used
+  pub are_used : AreUsed (rewritten f masks by) (must_stay (rewritten f masks by)) used
   pub is : g ≡ numbered (left used (rewritten f masks by)) each_number

@@ -1,5 +1,5 @@
 -- Tables of the operands that names are replaced by.
-use Rattle.std.specs.Prelude.{◌≡◌, ℕ, nat_eq, List, Option, Some, None, length, slice_index_or, if◌then◌else◌}
+use Rattle.std.specs.Prelude.{◌≡◌, ℕ, nat_eq, List, Option, None, length, slice_index_or, if◌then◌else◌}
 use Rattle.vfa_ir.specs.declared.operations.Operand.{Operand}
 use Rattle.vfa_ir.specs.declared.functions.Function.{Function}
 use Rattle.vfa_bits.specs.Standing.{replacement}

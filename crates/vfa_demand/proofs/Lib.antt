@@ -1,10 +1,15 @@
 mod Asking
 mod Ends
+pub mod Members
 mod Monotone
 mod Nothing
 mod Parts
+mod PutNames
 mod Searched
+mod Searching
 mod Shifts
+pub mod UsableNames
 mod UsableParts
+pub mod UsedNames
 mod Users
 mod Within

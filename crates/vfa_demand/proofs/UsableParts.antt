@@ -1,5 +1,5 @@
 -- A function that some text reads as uses its own values, at widths of the profile.
-use Rattle.std.proofs.Common.{◌≡◌, ℕ, List, [], ◌∷◌, map, length, All, Option, Some, None, refl, lit≤}
+use Rattle.std.proofs.Common.{◌≡◌, ℕ, [], ◌∷◌, length, All, Option, Some, None, refl, lit≤}
 use Rattle.std.specs.List.{slice_get}
 use Rattle.std.proofs.lemmas.List.Elements.{All-cons, All-map, All-nil, All-weaker}
 use Rattle.vfa_ir.specs.declared.operations.BlockId.{BlockId}
@@ -10,7 +10,6 @@ use Rattle.vfa_ir.specs.declared.functions.Block.{Block}
 use Rattle.vfa_ir.specs.declared.functions.CallArg.{CallArg}
 use Rattle.vfa_ir.specs.declared.functions.CallOp.{CallOp}
 use Rattle.vfa_ir.specs.declared.functions.Function.{Function}
-use Rattle.vfa_ir.specs.declared.functions.Inst.{Inst}
 use Rattle.vfa_ir.specs.declared.functions.Phi.{Phi}
 use Rattle.vfa_ir.specs.declared.functions.Term.{Term}
 use Rattle.vfa_ir.specs.Grammar as grammar

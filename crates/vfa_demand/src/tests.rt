@@ -1,6 +1,7 @@
 ghost use Rattle.std.specs.Prelude.{◌<◌, All, IsTrue, length};
 ghost use Rattle.vfa_demand.specs.Masks.{number_width, seen_in};
 ghost use Rattle.vfa_demand.specs.Usable.{AreUsable, IsNameBelow, IsUsable, IsUsableBlock, IsUsableInst, IsUsablePhi};
+ghost use Rattle.vfa_demand.specs.Used.{UsesItsValues};
 ghost use Rattle.vfa_ir.specs.Operands.{operands_of};
 ghost use Rattle.vfa_word.specs.Numbers.{IsWidth};
 
@@ -135,14 +136,29 @@ fn is_width(width: u32) -> bool
     1 <= width && width <= 128
 }
 
-/// Whether a cast, or a binary operation with a literal, uses a value of the function at a width of the profile.
+/// Whether a cast or a binary operation uses values of the function at a width of the profile.
 fn is_usable(f: &Function, op: &Op) -> bool
     ensures { IsTrue result → All (IsUsable (length f.now.values)) (operands_of f.now op.now) }
 {
     match *op {
         Op::Cast { from, a, .. } => is_width(from) && is_below(f.values.as_slice().len(), a),
+        Op::Bin { width, a, b, .. } => {
+            let count = f.values.as_slice().len();
+            is_width(width) && is_below(count, a) && is_below(count, b)
+        }
         _ => false,
     }
+}
+
+fn are_usable(f: &Function, insts: &[Inst]) -> bool
+    ensures { IsTrue result → All (IsUsableInst f.now (length f.now.values)) insts.now }
+{
+    'each: for inst in insts {
+        if !is_usable(f, &inst.op) {
+            return false;
+        }
+    }
+    true
 }
 
 fn is_seen_usable(f: &Function, term: &Term) -> bool
@@ -154,17 +170,14 @@ fn is_seen_usable(f: &Function, term: &Term) -> bool
     }
 }
 
-/// Whether the block is one usable instruction and a return of a usable operand.
+/// Whether the block is usable instructions and a return of a usable operand.
 fn is_usable_block(f: &Function, block: &Block) -> bool
     ensures { IsTrue result → IsUsableBlock f.now (length f.now.values) block.now }
 {
     if !block.phis.as_slice().is_empty() {
         return false;
     }
-    let [inst] = block.insts.as_slice() else {
-        return false;
-    };
-    is_usable(f, &inst.op) && is_seen_usable(f, &block.term)
+    are_usable(f, block.insts.as_slice()) && is_seen_usable(f, &block.term)
 }
 
 fn is_usable_function(f: &Function) -> bool
@@ -174,6 +187,12 @@ fn is_usable_function(f: &Function) -> bool
         [block] => is_usable_block(f, block),
         _ => false,
     }
+}
+
+fn uses_its_values(f: &Function) -> bool
+    ensures { IsTrue result → UsesItsValues f.now }
+{
+    is_usable_function(f)
 }
 
 fn value(width: u32) -> Value {
@@ -227,4 +246,75 @@ fn only_bits_that_are_returned_are_asked_for(rt: HostRuntime) {
     assert!(rt; is_usable_function(&f));
     let masks = least_masks(rt.alloc(), &f).expect(&rt, "memory");
     assert!(rt; masks.as_slice() == [255, 255, 0].as_slice());
+}
+
+fn line(name: u32, a: Operand, b: Operand) -> Inst {
+    Inst {
+        result: Some(ValueId(name)),
+        op: binary(Bin::Add, 8, a, b),
+    }
+}
+
+/// `%2 = add i8 %0, 1`, `%3 = add i8 %1, %1`, `%4 = add i8 %2, 1`, and a return of this name.
+fn summing(alloc: Global, returned: u32) -> Result<Function, AllocError> {
+    let mut values: Vec<Value> = Vec::new(alloc);
+    for _ in 0..5 {
+        values.push(value(8))?;
+    }
+    let mut insts: Vec<Inst> = Vec::new(alloc);
+    insts.push(line(2, name(0), Operand::Literal(1)))?;
+    insts.push(line(3, name(1), name(1)))?;
+    insts.push(line(4, name(2), Operand::Literal(1)))?;
+    let mut blocks: Vec<Block> = Vec::new(alloc);
+    blocks.push(Block {
+        name: None,
+        phis: Items(Vec::new(alloc)),
+        insts: Items(insts),
+        term: Term::Ret {
+            width: 8,
+            a: name(returned),
+        },
+    })?;
+    let mut params: Vec<Param> = Vec::new(alloc);
+    for number in 0..2 {
+        params.push(Param {
+            value: ValueId(number),
+            words: Items(Vec::new(alloc)),
+        })?;
+    }
+    Ok(Function {
+        name: Name::of(alloc, b"f")?,
+        lead: Items(Vec::new(alloc)),
+        width: 8,
+        params: Items(params),
+        tail: Name(Vec::new(alloc)),
+        values: Items(values),
+        blocks: Items(blocks),
+        calls: Items(Vec::new(alloc)),
+    })
+}
+
+#[test]
+fn definitions_of_used_names_use_theirs(rt: HostRuntime) {
+    let f = summing(rt.alloc(), 4).expect(&rt, "memory");
+    assert!(rt; uses_its_values(&f));
+    let used = used_names(rt.alloc(), &f, &[]).expect(&rt, "memory");
+    assert!(rt; used.as_slice() == [true, false, true, false, true].as_slice());
+    let behind = names_behind(rt.alloc(), &f).expect(&rt, "memory");
+    assert!(rt; behind.as_slice().len() == 5);
+    assert!(rt; behind.as_slice()[3].as_slice() == [1, 1].as_slice());
+}
+
+#[test]
+fn what_stays_uses_its_names(rt: HostRuntime) {
+    let f = summing(rt.alloc(), 3).expect(&rt, "memory");
+    assert!(rt; uses_its_values(&f));
+    let mut last: Vec<bool> = Vec::new(rt.alloc());
+    last.push(false).expect(&rt, "memory");
+    last.push(false).expect(&rt, "memory");
+    last.push(true).expect(&rt, "memory");
+    let mut must: Vec<Items<bool>> = Vec::new(rt.alloc());
+    must.push(Items(last)).expect(&rt, "memory");
+    let used = used_names(rt.alloc(), &f, must.as_slice()).expect(&rt, "memory");
+    assert!(rt; used.as_slice() == [true, true, true, true, false].as_slice());
 }
