@@ -5,6 +5,8 @@ ghost use Rattle.vfa_ir.specs.Typed.{Converts};
 ghost use Rattle.vfa_rules.specs.Ready.{IsOnBits};
 ghost use Rattle.vfa_word.specs.Numbers.{IsWidth};
 
+mod edges;
+
 use crate::{Change, OverflowCall, rule_with};
 use std::process::Abort;
 use vfa_fact::{Cell, Parts};
