@@ -1,5 +1,5 @@
 -- The lines of a report show what the states of the table have, and so the best bits.
-use Rattle.std.proofs.Common.{◌≡◌, ◌<◌, ◌^◌, ◌++◌, ℕ, suc, Bool, true, false, nat_eq, if◌then◌else◌, Option, Some, None, List, [], ◌∷◌, flat_map, slice_get, All, unwrap_or, refl, sym, ap, subst, ◌∙◌, eq-eqb}
+use Rattle.std.proofs.Common.{◌≡◌, ◌+◌, ◌<◌, ◌^◌, ◌++◌, ℕ, suc, true, false, if◌then◌else◌, Option, Some, None, List, [], ◌∷◌, flat_map, slice_get, All, unwrap_or, refl, sym, ap, subst, ◌∙◌, arith, eq-eqb}
 use Rattle.std.specs.Prelude.{IsSome, IsSomeAnd}
 use Rattle.std.specs.List.{AllByRecursion}
 use Rattle.std.specs.Option.{ForSome, option_map}
@@ -43,13 +43,13 @@ use Rattle.vfa_walk.specs.Passes.{followed}
 use Rattle.vfa_walk.specs.Stepping.{fact_of, insts_of, before_line, redefined, with_result, is_division, told_apart, survived, after_inst, transferred}
 use Rattle.vfa_walk.specs.Tables.{States, IsTableOf, state_at}
 use Rattle.vfa_walk.specs.TruthLaws.{IsStateAt}
-use Rattle.vfa_walk.proofs.TruthBlocks.{after_none, after_more}
+use Rattle.vfa_walk.proofs.TruthBlocks.{after_more}
 use Rattle.vfa_walk.proofs.TruthFacts.{fact_typed}
 use Rattle.vfa_walk.proofs.TruthShape.{table_shape, place_state}
 use Rattle.vfa_walk.proofs.TruthTypes.{IsTypedOp, line_is_typed, number_operand}
-use Rattle.vfa_report.specs.BestBits.{HasBestBits, AgreesWith, Agrees, GivesDigit, IsBestOf, IsShownBehind, LineIsBest}
+use Rattle.vfa_report.specs.BestBits.{HasBestBits, AgreesWith, Agrees, GivesDigit, IsBestOf, IsBestBehind, LineIsBest}
 use Rattle.vfa_report.specs.Report.{Known, ReportLine, known_at, parameter_lines, used_lines, phi_lines, result_lines, inst_lines, block_lines, lines_from, report_lines}
-use Rattle.vfa_report.specs.Showing.{SomeHas}
+use Rattle.vfa_report.specs.Showing.{Differ}
 use Rattle.vfa_report.specs.Uses.{names_in}
 use Rattle.vfa_report.proofs.BestRows.{only_alone, agrees_with, Given, CellsGive, cell_tells}
 use Rattle.vfa_report.proofs.ReportTrue.{all_append, all_flat}
@@ -132,7 +132,7 @@ module _ (f : Function) where
     binary_best : (bin : Bin) (flags : Flags) (w : ℕ) (a b : Operand) → IsTypedOp f (Op.Bin bin flags w a b) →
         ((n : ℕ) → is_in n (op_names f (Op.Bin bin flags w a b)) ≡ true → IsSome (s.fact n)) → Made (Op.Bin bin flags w a b) v s ≡ Some after →
         IsBestOf s (record { place = place; name = v; parts = fact.parts }) (Op.Bin bin flags w a b)
-    binary_best bin flags w a b typed names made best i less none one =
+    binary_best bin flags w a b typed names made best i less differ =
         let left_of = fact_typed fact_type IsAnyFact fact_answers fact_laws.typed f s w a facts (number_operand f w a typed.ranges.1.of_width typed.ranges.1.first typed.operands.first) in
         let right_of = fact_typed fact_type IsAnyFact fact_answers fact_laws.typed f s w b facts (number_operand f w b typed.ranges.1.of_width typed.ranges.1.second typed.operands.second) in
         let left : CellValue = cell_in (fact_of fact_answers s (Ty.Int w) a) in
@@ -141,7 +141,7 @@ module _ (f : Function) where
         let shown : fact ≡ one_fact (binary_cell bin flags left right) = made_fact bin flags w a b v s after fact best made known in
         let cells : CellsGive bin left right i =
         cell_tells bin best flags left right i (subst (λ k. i < k) (sym left_cell.width) less) (subst IsAnyFact shown is)
-        (subst (λ (d : AnyFact). SomeHas (in_cell (first_of d.parts)) 0 i) shown none) (subst (λ (d : AnyFact). SomeHas (in_cell (first_of d.parts)) 1 i) shown one) in
+        (subst (λ (d : AnyFact). Differ (in_cell (first_of d.parts)) i) shown differ) in
         let digit : (d : ℕ) → Given bin left.width cells.first cells.second i d → GivesDigit s bin w a b i d =
         λ d g.
         let here : Given bin w cells.first cells.second i d = subst (λ k. Given bin k cells.first cells.second i d) left_cell.width g in
@@ -191,27 +191,32 @@ module _ (f : Function) (checked : IsChecked f) (printable : IsPrintable f) (t :
       of None = refl
       of (Some s) = after_more fact_answers f (insts_of f b) i inst s stands
 
-  defined_best : (place : Place) (s : State) (v : ℕ) (fact : AnyFact) → state_at fact_answers f t place ≡ Some s → s.fact v ≡ Some fact →
-      LineIsBest f t (ReportLine.defined (record { place = place; name = v; parts = fact.parts }))
-  defined_best place s v fact here known b i inst shown = of (state_at fact_answers f t (At b i)) refl
+  defined_best : (b i : ℕ) (block : Block) (inst : Inst) (v : ValueId) (s : State) (fact : AnyFact) → IsLine f b block i inst → inst.result ≡ Some v →
+      state_at fact_answers f t (At b (suc i)) ≡ Some s → s.fact v.0 ≡ Some fact → LineIsBest f t (ReportLine.defined (record { place = At b (suc i); name = v.0; parts = fact.parts }))
+  defined_best b i block inst v s fact line result behind known = of (state_at fact_answers f t (At b i)) refl
     where
-      behind : state_at fact_answers f t (At b (suc i)) ≡ Some s
-      behind = subst (λ p. state_at fact_answers f t p ≡ Some s) shown.place here
-
-      of : (o : Option State) → state_at fact_answers f t (At b i) ≡ o → IsSomeAnd o (λ u. IsBestOf u (record { place = place; name = v; parts = fact.parts }) inst.op)
+      of : (o : Option State) → state_at fact_answers f t (At b i) ≡ o → IsBestBehind f t (record { place = At b (suc i); name = v.0; parts = fact.parts }) b i
       of None none =
           let gone : and_then None (after_inst fact_answers f inst) ≡ Some s =
-          ap (λ o. and_then o (after_inst fact_answers f inst)) (sym none) ∙ (sym (step b i shown.block inst shown.line) ∙ behind) in
+          ap (λ o. and_then o (after_inst fact_answers f inst)) (sym none) ∙ (sym (step b i block inst line) ∙ behind) in
           absurd cc
       of (Some u) is =
           let made : after_inst fact_answers f inst u ≡ Some s =
-          ap (λ o. and_then o (after_inst fact_answers f inst)) (sym is) ∙ (sym (step b i shown.block inst shown.line) ∙ behind) in
+          ap (λ o. and_then o (after_inst fact_answers f inst)) (sym is) ∙ (sym (step b i block inst line) ∙ behind) in
           let before = placed (At b i) u is in
           let after = placed (At b (suc i)) s behind in
-          operation_best f place v u s fact before.facts known (after.facts v fact known).is_proper inst.op
-          (line_is_typed f printable checked.formed.typed b i shown.block inst shown.line)
-          (λ n used. before.names n (use_is_defined f b shown.block i inst n checked.formed.defined shown.line used))
-          (subst (λ r. option_map (with_result fact_answers f inst.op r) (survived fact_answers f inst.op u) ≡ Some s) shown.result made)
+          record {
+            block = block;
+            inst = inst;
+            line = line;
+            result = result;
+            before = u;
+            is_before = is;
+            best = operation_best f (At b (suc i)) v.0 u s fact before.facts known (after.facts v.0 fact known).is_proper inst.op
+                (line_is_typed f printable checked.formed.typed b i block inst line)
+                (λ n used. before.names n (use_is_defined f b block i inst n checked.formed.defined line used))
+                (subst (λ r. option_map (with_result fact_answers f inst.op r) (survived fact_answers f inst.op u) ≡ Some s) result made);
+          }
 
   -- ---- the lines
 
@@ -226,41 +231,51 @@ module _ (f : Function) (checked : IsChecked f) (printable : IsPrintable f) (t :
       of None e = tt
       of (Some fact) e = (each fact e, tt)
 
-  result_best : (b after : ℕ) (result : Option ValueId) (s : State) → state_at fact_answers f t (At b after) ≡ Some s → AllByRecursion Best (result_lines b after result s)
-  result_best b after None s here = tt
-  result_best b after (Some v) s here = known_best ReportLine.defined (At b after) s v.0 (λ fact known. defined_best (At b after) s v.0 fact here known)
+  module _ (b : ℕ) (block : Block) (there : slice_get f.blocks b ≡ Some block) where
+    result_best : (i : ℕ) (inst : Inst) (result : Option ValueId) (s : State) → slice_get block.insts i ≡ Some inst → inst.result ≡ result →
+        state_at fact_answers f t (At b (suc i)) ≡ Some s → AllByRecursion Best (result_lines b (suc i) result s)
+    result_best i inst None s stands is behind = tt
+    result_best i inst (Some v) s stands is behind =
+        known_best ReportLine.defined (At b (suc i)) s v.0 (λ fact known. defined_best b i block inst v s fact (record { there = there; stands = stands }) is behind known)
 
-  insts_best : (b i : ℕ) (insts : List Inst) → AllByRecursion Best (inst_lines f t b i insts)
-  insts_best b i [] = tt
-  insts_best b i (inst ∷ rest) = of (state_at fact_answers f t (At b (suc i))) refl (insts_best b (suc i) rest)
-    where
-      of : (o : Option State) → state_at fact_answers f t (At b (suc i)) ≡ o → AllByRecursion Best (inst_lines f t b (suc i) rest) →
-          AllByRecursion Best (elim o [ None ↦ ReportLine.never_past b i ∷ [] | Some s ↦ result_lines b (suc i) inst.result s ++ inst_lines f t b (suc i) rest ])
-      of None e later = (tt, tt)
-      of (Some s) e later = all_append Best (result_lines b (suc i) inst.result s) (inst_lines f t b (suc i) rest) (result_best b (suc i) inst.result s e) later
+    -- the instructions from number i on
+    insts_best : (i : ℕ) (insts : List Inst) → ((j : ℕ) → slice_get insts j ≡ slice_get block.insts (j + i)) → AllByRecursion Best (inst_lines f t b i insts)
+    insts_best i [] same = tt
+    insts_best i (inst ∷ rest) same =
+        of (state_at fact_answers f t (At b (suc i))) refl
+        (insts_best (suc i) rest (λ j. let next : suc j + i ≡ j + suc i = omega arith in same (suc j) ∙ ap (slice_get block.insts) next))
+      where
+        of : (o : Option State) → state_at fact_answers f t (At b (suc i)) ≡ o → AllByRecursion Best (inst_lines f t b (suc i) rest) →
+            AllByRecursion Best (elim o [ None ↦ ReportLine.never_past b i ∷ [] | Some s ↦ result_lines b (suc i) inst.result s ++ inst_lines f t b (suc i) rest ])
+        of None e later = (tt, tt)
+        of (Some s) e later =
+            let here : i ≡ 0 + i = omega arith in
+            all_append Best (result_lines b (suc i) inst.result s) (inst_lines f t b (suc i) rest)
+            (result_best i inst inst.result s (ap (slice_get block.insts) here ∙ sym (same 0)) refl e) later
 
-  entry_place : (b : ℕ) (s : State) → t b ≡ Some s → state_at fact_answers f t (At b 0) ≡ Some s
-  entry_place b s e = ap (followed (before_line fact_answers f b 0)) e ∙ after_none fact_answers f (insts_of f b) s
+    block_best : AllByRecursion Best (block_lines f t b block)
+    block_best = of (t b)
+      where
+        of : (o : Option State) →
+            AllByRecursion Best (elim o [ None ↦ ReportLine.never_reached b ∷ [] | Some s ↦ ReportLine.block b ∷ (used_lines f b block s ++ (phi_lines b block s ++ inst_lines f t b 0 block.insts)) ])
+        of None = (tt, tt)
+        of (Some s) = (
+          tt,
+          all_append Best (used_lines f b block s) (phi_lines b block s ++ inst_lines f t b 0 block.insts)
+              (all_flat Best (known_at ReportLine.used (At b 0) s) (names_in f block) (λ v. known_best ReportLine.used (At b 0) s v (λ fact known. tt)))
+              (all_append Best (phi_lines b block s) (inst_lines f t b 0 block.insts)
+              (all_flat Best (λ (p : Phi). known_at ReportLine.defined (At b 0) s p.result.0) block.phis
+              (λ p. known_best ReportLine.defined (At b 0) s p.result.0 (λ fact known. tt)))
+              (insts_best 0 block.insts (λ j. let same : j ≡ j + 0 = omega arith in ap (slice_get block.insts) same))),
+        )
 
-  block_best : (b : ℕ) (block : Block) → AllByRecursion Best (block_lines f t b block)
-  block_best b block = of (t b) refl
-    where
-      of : (o : Option State) → t b ≡ o →
-          AllByRecursion Best (elim o [ None ↦ ReportLine.never_reached b ∷ [] | Some s ↦ ReportLine.block b ∷ (used_lines f b block s ++ (phi_lines b block s ++ inst_lines f t b 0 block.insts)) ])
-      of None e = (tt, tt)
-      of (Some s) e = (
-        tt,
-        all_append Best (used_lines f b block s) (phi_lines b block s ++ inst_lines f t b 0 block.insts)
-            (all_flat Best (known_at ReportLine.used (At b 0) s) (names_in f block) (λ v. known_best ReportLine.used (At b 0) s v (λ fact known. tt)))
-            (all_append Best (phi_lines b block s) (inst_lines f t b 0 block.insts)
-            (all_flat Best (λ (p : Phi). known_at ReportLine.defined (At b 0) s p.result.0) block.phis
-            (λ p. known_best ReportLine.defined (At b 0) s p.result.0 (λ fact known. defined_best (At b 0) s p.result.0 fact (entry_place b s e) known)))
-            (insts_best b 0 block.insts)),
-      )
-
-  blocks_best : (b : ℕ) (blocks : List Block) → AllByRecursion Best (lines_from f t b blocks)
-  blocks_best b [] = tt
-  blocks_best b (block ∷ rest) = all_append Best (block_lines f t b block) (lines_from f t (suc b) rest) (block_best b block) (blocks_best (suc b) rest)
+  -- the blocks from number b on
+  blocks_best : (b : ℕ) (blocks : List Block) → ((j : ℕ) → slice_get blocks j ≡ slice_get f.blocks (j + b)) → AllByRecursion Best (lines_from f t b blocks)
+  blocks_best b [] same = tt
+  blocks_best b (block ∷ rest) same =
+      let here : b ≡ 0 + b = omega arith in
+      all_append Best (block_lines f t b block) (lines_from f t (suc b) rest) (block_best b block (ap (slice_get f.blocks) here ∙ sym (same 0)))
+      (blocks_best (suc b) rest (λ j. let next : suc j + b ≡ j + suc b = omega arith in same (suc j) ∙ ap (slice_get f.blocks) next))
 
   parameters_best : AllByRecursion Best (parameter_lines f t)
   parameters_best = of (t first_block)
@@ -271,4 +286,4 @@ module _ (f : Function) (checked : IsChecked f) (printable : IsPrintable f) (t :
           (λ p. known_best ReportLine.parameter (At first_block 0) s p.value.0 (λ fact known. tt))
 
   pub report_best : All (LineIsBest f t) (report_lines f t)
-  report_best = All-from_recursion (LineIsBest f t) (report_lines f t) (tt, all_append Best (parameter_lines f t) (lines_from f t 0 f.blocks) parameters_best (blocks_best 0 f.blocks))
+  report_best = All-from_recursion (LineIsBest f t) (report_lines f t) (tt, all_append Best (parameter_lines f t) (lines_from f t 0 f.blocks) parameters_best (blocks_best 0 f.blocks (λ j. let same : j ≡ j + 0 = omega arith in ap (slice_get f.blocks) same)))

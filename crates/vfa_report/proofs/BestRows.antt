@@ -1,5 +1,5 @@
 -- The bits that a row of an operation leaves unknown are those that the known bits of its operands leave open.
-use Rattle.std.proofs.Common.{◌≡◌, ℕ, ◌-◌, ◌+◌, ◌^◌, ◌<◌, Bool, true, false, ◌&&◌, ◌||◌, nat_eq, nat_lt, bit_and, bit_or, bit_xor, refl, sym, ap, subst, ◌∙◌, arith, inl, inr, Option, Some, None}
+use Rattle.std.proofs.Common.{◌≡◌, ℕ, ◌-◌, ◌+◌, ◌^◌, ◌<◌, Bool, true, ◌&&◌, ◌||◌, nat_eq, nat_lt, bit_and, bit_or, bit_xor, refl, sym, ap, subst, ◌∙◌, arith, inl, inr, Option, Some, None}
 use Rattle.std.specs.Prelude.{IfSome}
 use Rattle.std.specs.Int.{bit_at}
 use Rattle.std.specs.Option.{option_map}
@@ -8,7 +8,6 @@ use Rattle.std.proofs.lemmas.Nat.{pow_pos}
 use Rattle.vfa_ir.specs.declared.operations.Bin.{Bin}
 use Rattle.vfa_ir.specs.declared.operations.Flags.{Flags}
 use Rattle.vfa_word.specs.Operations.{sum_of, difference_of}
-use Rattle.vfa_word.specs.declared.arith.Arith.{Arith}
 use Rattle.vfa_dom.specs.Best.{Masks, best_of}
 use Rattle.vfa_dom.specs.Results.{results, IsResult}
 use Rattle.vfa_dom.specs.Search.{all_below}
@@ -28,22 +27,21 @@ use Rattle.vfa_wrap.specs.declared.ends_op.EndsOp.{EndsOp}
 use Rattle.vfa_fact.specs.declared.numbers.Numbers.{Numbers}
 use Rattle.vfa_fact.specs.Cells.{CellValue, IsCell, in_cell, in_option, only_number, cell_of}
 use Rattle.vfa_fact.specs.Fact.{IsFact, masks_in, span_in, in_numbers}
-use Rattle.vfa_fact.specs.Sharp.{sharp_of}
 use Rattle.vfa_fact.proofs.Facts.{fact_best, fact_cube, numbers_parts}
-use Rattle.vfa_fact.proofs.SharpSets.{Member, sharp_tells}
+use Rattle.vfa_fact.proofs.SharpSets.{sharp_tells}
 use Rattle.vfa_mean.specs.Meaning.{binary}
 use Rattle.vfa_mean.specs.declared.value.Done.{Done}
 use Rattle.vfa_mean.specs.declared.value.Val.{Val}
 use Rattle.vfa_xfer.specs.Arcs.{full_arc, sum_arc, difference_arc, row_arc}
-use Rattle.vfa_xfer.specs.Binary.{ends_in_numbers, best_results, sum_row, difference_row, and_bits_row, or_bits_row, xor_bits_row, disjoint_bound, binary_row, binary_constant, binary_by_row, binary_cell, operands_marked, never_breaks}
+use Rattle.vfa_xfer.specs.Binary.{ends_in_numbers, best_results, sum_row, difference_row, and_bits_row, or_bits_row, xor_bits_row, binary_row, binary_constant, binary_by_row, binary_cell, operands_marked}
 use Rattle.vfa_xfer.specs.BinarySound.{where_holds}
-use Rattle.vfa_xfer.specs.Bounds.{BoundsOf, no_bounds, both_bounds, bound_if, wrap_bounds, row_of}
-use Rattle.vfa_xfer.specs.Constants.{constant_numbers, number_given, single_in}
+use Rattle.vfa_xfer.specs.Bounds.{BoundsOf, no_bounds, row_of}
+use Rattle.vfa_xfer.specs.Constants.{number_given, single_in}
 use Rattle.vfa_xfer.specs.Overflows.{no_flags}
 use Rattle.vfa_xfer.specs.RowFacts.{row_is_fact}
 use Rattle.vfa_xfer.specs.Rows.{RowOf, in_row, row_fact, row_numbers}
 use Rattle.vfa_report.specs.BestBits.{HasBestBits, AgreesWith}
-use Rattle.vfa_report.specs.Showing.{SomeHas, EachHas}
+use Rattle.vfa_report.specs.Showing.{Differ}
 
 -- ---- masks
 
@@ -269,13 +267,14 @@ pub record CellsGive (bin : Bin) (a b : CellValue) (i : ℕ) : Type 0 where
 
 -- what the cell of a result tells of the cells of the operands
 abbrev pub Tells : Bin → CellValue → CellValue → ℕ → CellValue → Type 0
-Tells bin a b i c = IsCell c → SomeHas (in_cell c) 0 i → SomeHas (in_cell c) 1 i → CellsGive bin a b i
+Tells bin a b i c = IsCell c → Differ (in_cell c) i → CellsGive bin a b i
 
 module _ (bin : Bin) (best : HasBestBits bin) (flags : Flags) (a b : CellValue) (i : ℕ) (less : i < a.width) where
   -- one number has one digit
   one_number : (o : Option ℕ) (mark : Bool) → Tells bin a b i (cell_of a.width (option_map (only_number a.width) o) mark)
-  one_number None mark is none one = absurd (unknown_none a.width none.0 none.1)
-  one_number (Some x) mark is none one =
+  one_number None mark is differ = absurd (unknown_none a.width differ.0.0 differ.0.1)
+  one_number (Some x) mark is differ =
+      let none = differ.0 in let one = differ.1 in
       let fits = (is.fact (only_number a.width x) refl).arc.first_fits in
       let first = only_alone a.width x none.0 fits (numbers_parts a.width (only_number a.width x) none.0 (of_some a.width (only_number a.width x) none.0 none.1)).0 in
       let second = only_alone a.width x one.0 fits (numbers_parts a.width (only_number a.width x) one.0 (of_some a.width (only_number a.width x) one.0 one.1)).0 in
@@ -284,15 +283,15 @@ module _ (bin : Bin) (best : HasBestBits bin) (flags : Flags) (a b : CellValue) 
       let no : ⊥ = omega (arith, zero, on) in absurd no
 
   by_row : (p q : Option Numbers) → a.numbers ≡ p → b.numbers ≡ q → Tells bin a b i (binary_by_row bin flags a b p q)
-  by_row (Some m) (Some n) ea eb is none one = record {
+  by_row (Some m) (Some n) ea eb is differ = record {
     first = m;
     second = n;
     first_is = ea;
     second_is = eb;
-    both = row_given a.width m n flags i none.0 one.0 less none.2 one.2 bin best none.1 one.1;
+    both = row_given a.width m n flags i differ.0.0 differ.1.0 less differ.0.2 differ.1.2 bin best differ.0.1 differ.1.1;
   }
-  by_row (Some m) None ea eb is none one = absurd (unknown_none a.width none.0 none.1)
-  by_row None q ea eb is none one = absurd (unknown_none a.width none.0 none.1)
+  by_row (Some m) None ea eb is differ = absurd (unknown_none a.width differ.0.0 differ.0.1)
+  by_row None q ea eb is differ = absurd (unknown_none a.width differ.0.0 differ.0.1)
 
   pub cell_tells : Tells bin a b i (binary_cell bin flags a b)
   unfolding binary_cell

@@ -14,16 +14,17 @@ pub fn reports_hold()
     ensures { (f : Function) → IsChecked f → IsPrintable f → ReportHolds f }
 {}
 
-/// A function has at most one report.
-pub fn one_report()
-    ensures { (f : Function) (s t : List ℕ) → IsReport f s → IsReport f t → s ≡ t }
-{}
-
-/// The bits that the report on a checked function shows of the result of an `and`, `or`, `xor`, `add` or `sub`, whatever its flags,
-/// are the best ones: each bit that is shown as unknown is 0 in a result of some numbers that agree with the known bits of the
-/// operands right before the instruction, and 1 in a result of others.
+/// Of the result of an `and`, `or`, `xor`, `add` or `sub`, whatever its flags, the report on a checked function leaves no bit unknown
+/// that the known bits of the operands decide: each bit that is shown as unknown is 0 in what the operation without its flags
+/// gives of some numbers that agree with what is known of the operands' bits right before the instruction, and 1 in what it
+/// gives of others.
 ///
 /// Where the bits of `%x` are `00?1`, those of `add i4 %x, 1` are `0??0`.
 pub fn bits_are_best()
     ensures { (f : Function) → IsChecked f → IsPrintable f → ReportIsBest f }
+{}
+
+/// A function has at most one report.
+pub fn one_report()
+    ensures { (f : Function) (s t : List ℕ) → IsReport f s → IsReport f t → s ≡ t }
 {}
