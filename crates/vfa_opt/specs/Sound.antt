@@ -4,6 +4,7 @@ use Rattle.vfa_ir.specs.declared.functions.Function.{Function}
 use Rattle.vfa_ir.specs.declared.functions.Lines.{Lines}
 use Rattle.vfa_ir.specs.Reads.{Reads}
 use Rattle.vfa_report.specs.Report.{IsReport, report_lines}
+use Rattle.vfa_report.specs.BestBits.{LineIsBest}
 use Rattle.vfa_report.specs.ReportTruth.{LineHolds}
 use Rattle.vfa_opt.specs.declared.jobs.Job.{Job}
 use Rattle.vfa_opt.specs.First.{IsFirst}
@@ -19,10 +20,12 @@ pub record IsRefinement (f : Function) (text : List ℕ) : Type 0 where
   pub same : (IsFirst f → ⊥) → function ≡ f
 
 -- The text is the report by the function's table, and each of its lines holds of the function's runs: whenever a run comes to the
--- line's place, what the line shows of a name is so, and no run comes to a place that is said never to be reached or passed.
+-- line's place, what the line shows of a name is so, and no run comes to a place that is said never to be reached or passed. Of the
+-- result of an `and`, `or`, `xor`, `add` or `sub` no bit is shown as unknown that the known bits of the operands decide.
 pub record IsTrueReport (f : Function) (text : List ℕ) : Type 0 where
   pub report : IsReport f text
   pub holds : All (LineHolds f) (report_lines f report.table)
+  pub best : All (LineIsBest f report.table) (report_lines f report.table)
 
 -- what is claimed of a job's text for a function
 abbrev pub IsSound : Job → Function → List ℕ → Type 0

@@ -7,7 +7,7 @@ ghost use Rattle.vfa_opt.specs.Sound.{IsTrueReport};
 use std::alloc::{AllocError, Global};
 use vfa_check::Checked;
 use vfa_print::fit_is_printable;
-use vfa_report::{report, reports_hold};
+use vfa_report::{bits_are_best, report, reports_hold};
 use vfa_solve::solve;
 use vfa_xfer::AnyFact;
 
@@ -18,6 +18,7 @@ pub fn reported(alloc: Global, f: &Checked) -> Result<Vec<u8>, AllocError>
 {
     fit_is_printable();
     reports_hold();
+    bits_are_best();
     let _checked = f.function();
     let table = solve::<AnyFact>(alloc, f)?;
     let text = report(alloc, f, &table)?;

@@ -1,3 +1,5 @@
+pub mod BestLines
+pub mod BestRows
 pub mod FirstUses
 pub mod LineTexts
 pub mod NameLines

@@ -29,11 +29,11 @@ use Rattle.vfa_report.specs.ReportTruth.{KnownHolds, IsNeverMet, LineHolds}
 
 -- ---- lists
 
-all_append : {A : Type 0} (P : A → Type 0) (xs ys : List A) → AllByRecursion P xs → AllByRecursion P ys → AllByRecursion P (xs ++ ys)
+pub all_append : {A : Type 0} (P : A → Type 0) (xs ys : List A) → AllByRecursion P xs → AllByRecursion P ys → AllByRecursion P (xs ++ ys)
 all_append P [] ys all all' = all'
 all_append P (x ∷ xs) ys all all' = (all.0, all_append P xs ys all.1 all')
 
-all_flat : {A B : Type 0} (P : B → Type 0) (g : A → List B) (xs : List A) → ((x : A) → AllByRecursion P (g x)) → AllByRecursion P (flat_map g xs)
+pub all_flat : {A B : Type 0} (P : B → Type 0) (g : A → List B) (xs : List A) → ((x : A) → AllByRecursion P (g x)) → AllByRecursion P (flat_map g xs)
 all_flat P g [] each = tt
 all_flat P g (x ∷ xs) each = all_append P (g x) (flat_map g xs) (each x) (all_flat P g xs each)
 

@@ -1,3 +1,4 @@
+pub mod BestBits
 pub mod FactLines
 pub mod Met
 pub mod Report

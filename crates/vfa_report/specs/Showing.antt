@@ -20,12 +20,16 @@ SomeHas S digit i = (x : ℕ) × IsTrue (S x) × (bit_at x i ≡ digit)
 abbrev pub EachHas : (ℕ → Bool) → ℕ → ℕ → Type 0
 EachHas S digit i = (x : ℕ) → IsTrue (S x) → bit_at x i ≡ digit
 
+-- the numbers of the set differ there
+abbrev pub Differ : (ℕ → Bool) → ℕ → Type 0
+Differ S i = SomeHas S 0 i × SomeHas S 1 i
+
 -- one byte for each bit, from the top: the digit that all numbers of the set have there, or `?` where they differ
 pub record ShowsBits (w : ℕ) (S : ℕ → Bool) (bits : List ℕ) : Type 0 where
   pub long : length bits ≡ w
   pub zero : (i : ℕ) → i < w → slice_index bits (w - 1 - i) ≡ byte "0" ↔ EachHas S 0 i
   pub one : (i : ℕ) → i < w → slice_index bits (w - 1 - i) ≡ byte "1" ↔ EachHas S 1 i
-  pub unknown : (i : ℕ) → i < w → slice_index bits (w - 1 - i) ≡ byte "?" ↔ (SomeHas S 0 i × SomeHas S 1 i)
+  pub unknown : (i : ℕ) → i < w → slice_index bits (w - 1 - i) ≡ byte "?" ↔ Differ S i
 
 -- all numbers of the width, or those from a number up to before another one, going on at 0 after the greatest
 pub data ShowsRange (w : ℕ) (R : ℕ → Bool) : List ℕ → Type 0 where

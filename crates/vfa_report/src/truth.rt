@@ -4,6 +4,7 @@ ghost use Rattle.std.specs.Prelude.{◌≡◌, ℕ, List};
 ghost use Rattle.vfa_ir.specs.declared.functions.Function.{Function};
 ghost use Rattle.vfa_ir.specs.Printable.{IsPrintable};
 ghost use Rattle.vfa_check.specs.Checked.{IsChecked};
+ghost use Rattle.vfa_report.specs.BestBits.{ReportIsBest};
 ghost use Rattle.vfa_report.specs.Report.{IsReport};
 ghost use Rattle.vfa_report.specs.ReportTruth.{ReportHolds};
 
@@ -11,6 +12,16 @@ ghost use Rattle.vfa_report.specs.ReportTruth.{ReportHolds};
 /// whenever a run comes to the line's place, and no run comes to a place that is said never to be reached or passed.
 pub fn reports_hold()
     ensures { (f : Function) → IsChecked f → IsPrintable f → ReportHolds f }
+{}
+
+/// Of the result of an `and`, `or`, `xor`, `add` or `sub`, whatever its flags, the report on a checked function leaves no bit unknown
+/// that the known bits of the operands decide: each bit that is shown as unknown is 0 in what the operation without its flags
+/// gives of some numbers that agree with what is known of the operands' bits right before the instruction, and 1 in what it
+/// gives of others.
+///
+/// Where the bits of `%x` are `00?1`, those of `add i4 %x, 1` are `0??0`.
+pub fn bits_are_best()
+    ensures { (f : Function) → IsChecked f → IsPrintable f → ReportIsBest f }
 {}
 
 /// A function has at most one report.

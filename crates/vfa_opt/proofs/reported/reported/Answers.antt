@@ -6,4 +6,7 @@ returns-clause-sound c = λ text report. record {
   holds =
       c.reports_hold.ensures c.args.f.now c.function-checked.ensures.checked (c.fit_is_printable.ensures c.args.f.now c.function-checked.ensures.checked.fit)
       report.table report.is_table;
+  best =
+      c.bits_are_best.ensures c.args.f.now c.function-checked.ensures.checked (c.fit_is_printable.ensures c.args.f.now c.function-checked.ensures.checked.fit)
+      report.table report.is_table;
 }
