@@ -1,3 +1,4 @@
+-- helper: in no public contract
 -- Functions whose uses name their own values, at widths of the profile.
 use Rattle.std.specs.Prelude.{◌<◌, ℕ, length, All, ⊤}
 use Rattle.vfa_ir.specs.declared.operations.Operand.{Operand}

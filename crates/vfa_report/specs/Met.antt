@@ -1,4 +1,3 @@
--- helper: in no public contract
 -- Names that are met one after another, with a mark for each that was met before.
 use Rattle.std.specs.Prelude.{◌≡◌, ◌||◌, ℕ, Bool, false, List, ◌++◌, slice_index_or}
 use Rattle.vfa_ir.specs.Words.{is_in}

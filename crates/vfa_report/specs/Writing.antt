@@ -1,4 +1,3 @@
--- helper: in no public contract
 -- The lines for names, where the values of the function have these names.
 use Rattle.std.specs.Prelude.{ℕ, Option, Some, None, List, [], ◌++◌, flat_map, codes}
 use Rattle.vfa_ir.specs.declared.operations.ValueId.{ValueId}
