@@ -30,6 +30,8 @@ mod Phis
 mod PhisLeft
 mod PutOperands
 mod Ranges
+mod Reaching
+mod SpreadLaws
 mod Sublists
 mod TargetsLeft
 mod Terminators

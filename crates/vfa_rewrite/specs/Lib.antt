@@ -2,8 +2,10 @@ pub mod Alike
 pub mod ByFacts
 pub mod Chains
 pub mod Findings
+pub mod Found
 pub mod Marks
 pub mod Rewriting
 pub mod Rewritten
 pub mod Sizes
 pub mod Sound
+pub mod Spread

@@ -2,7 +2,9 @@
 //! and operations.
 #![tactic(auto)]
 
+mod found;
 mod laws;
+mod spreading;
 
 pub use laws::{
     chains_end, findings_are_true, findings_fit, fitting_marks_leave_checked, marks_are_one,
