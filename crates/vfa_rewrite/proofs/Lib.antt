@@ -1,3 +1,4 @@
+mod Asking
 mod Becoming
 mod BlocksLeft
 mod Chains

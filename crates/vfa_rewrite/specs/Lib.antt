@@ -1,4 +1,5 @@
 pub mod Alike
+pub mod Asked
 pub mod ByFacts
 pub mod Chains
 pub mod Findings

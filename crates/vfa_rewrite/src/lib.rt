@@ -2,8 +2,11 @@
 //! and operations.
 #![tactic(auto)]
 
+mod asked;
+mod facts;
 mod found;
 mod laws;
+mod ready;
 mod spreading;
 
 pub use laws::{
