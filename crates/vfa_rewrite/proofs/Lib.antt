@@ -27,6 +27,7 @@ mod OneFunction
 mod OneMarks
 mod OneOperand
 mod Operations
+mod OutEdges
 mod Phis
 mod PhisLeft
 mod PutOperands

@@ -3,6 +3,7 @@
 #![tactic(auto)]
 
 mod asked;
+mod edges;
 mod facts;
 mod found;
 mod laws;
