@@ -11,6 +11,7 @@ mod FactChanges
 mod FactDecisions
 mod FindingsFit
 mod FreshNames
+mod Goings
 mod Instructions
 mod KeptLeft
 mod KeptNames

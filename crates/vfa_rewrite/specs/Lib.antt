@@ -10,3 +10,4 @@ pub mod Rewritten
 pub mod Sizes
 pub mod Sound
 pub mod Spread
+pub mod Walked
