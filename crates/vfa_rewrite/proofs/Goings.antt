@@ -2,7 +2,7 @@
 use Rattle.std.proofs.Common.{◌≡◌, ◌<◌, ◌≤◌, ◌+◌, ℕ, zero, suc, true, Option, Some, None, is_some, List, [], ◌∷◌, ◌++◌, ◌-◌, take, length, get_or, refl, sym, ap, ◌∙◌, subst, inl, inr, ◌⊎◌, arith}
 use Rattle.std.specs.Prelude.{slice_get}
 use Rattle.std.proofs.lemmas.List.{length_push}
-use Rattle.std.proofs.lemmas.Option.{slice_get_past, slice_get_within, same_Some}
+use Rattle.std.proofs.lemmas.Option.{slice_get-get_or, slice_get_past, slice_get_within, same_Some}
 use Rattle.vfa_ir.specs.declared.operations.BlockId.{BlockId}
 use Rattle.vfa_ir.specs.declared.functions.Block.{Block}
 use Rattle.vfa_ir.specs.declared.functions.Function.{Function}
@@ -222,22 +222,17 @@ insts_are f b block there = ap (λ o. elim o [ None ↦ [] | Some x ↦ x.insts 
 
 -- ---- the walk through the instructions as they are listed
 
-stands_at : (insts : List Inst) (i : ℕ) (d : Inst) → i < length insts → slice_get insts i ≡ Some (get_or insts i d)
-stands_at [] i d h = absurd (omega (arith, h))
-stands_at (x ∷ insts) zero d h = refl
-stands_at (x ∷ insts) (suc i) d h = stands_at insts i d (omega (arith, h))
-
 module _ (f checked : Function) (same : f ≡ checked) (t : FactTable) (b : BlockId) (block : Block) (there : slice_get f.blocks b.0 ≡ Some block) (insts : List Inst) (are : insts ≡ block.insts) where
   own : insts_of f b.0 ≡ insts
   own = insts_are f b.0 block there ∙ sym are
 
   pub ready_at : IsReady f → (i : ℕ) (d : Inst) → i < length insts → IsReadyInst f (get_or insts i d)
-  ready_at ready i d less = ready_inst f b.0 block i (get_or insts i d) ready there (ap (λ l. slice_get l i) (sym are) ∙ stands_at insts i d less)
+  ready_at ready i d less = ready_inst f b.0 block i (get_or insts i d) ready there (ap (λ l. slice_get l i) (sym are) ∙ slice_get-get_or insts i d less)
 
   module _ (k : ℕ) (c : Cursor AnyFact) (lines new : List LineFinding) (d : Inst) (less : k < length insts) (going : IsGoing f t b k c lines) (s : Stored AnyFact) (at : s ≡ c.state)
       (put : new ≡ lines ++ (line_by f (known s) (get_or insts k d) ∷ [])) where
     stands : slice_get (insts_of f b.0) k ≡ Some (get_or insts k d)
-    stands = ap (λ l. slice_get l k) own ∙ stands_at insts k d less
+    stands = ap (λ l. slice_get l k) own ∙ slice_get-get_or insts k d less
 
     pushed : new ≡ lines ++ (line_by f (known c.state) (get_or insts k d) ∷ [])
     pushed = put ∙ ap (λ (u : Stored AnyFact). lines ++ (line_by f (known u) (get_or insts k d) ∷ [])) at

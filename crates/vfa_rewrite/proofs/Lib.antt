@@ -24,6 +24,7 @@ mod Lockstep
 mod MarkedBlocks
 mod MarkedLines
 mod Narrowing
+mod Noting
 mod OneFunction
 mod OneMarks
 mod OneOperand

@@ -5,6 +5,7 @@ pub mod Chains
 pub mod Findings
 pub mod Found
 pub mod Marks
+pub mod Replacing
 pub mod Rewriting
 pub mod Rewritten
 pub mod Sizes

@@ -8,6 +8,7 @@ mod facts;
 mod found;
 mod laws;
 mod ready;
+mod replacing;
 mod spreading;
 
 pub use laws::{
