@@ -1,3 +1,4 @@
+mod Asking
 mod Becoming
 mod BlocksLeft
 mod Chains
@@ -10,6 +11,7 @@ mod FactChanges
 mod FactDecisions
 mod FindingsFit
 mod FreshNames
+mod Goings
 mod Instructions
 mod KeptLeft
 mod KeptNames
@@ -22,14 +24,18 @@ mod Lockstep
 mod MarkedBlocks
 mod MarkedLines
 mod Narrowing
+mod Noting
 mod OneFunction
 mod OneMarks
 mod OneOperand
 mod Operations
+mod OutEdges
 mod Phis
 mod PhisLeft
 mod PutOperands
 mod Ranges
+mod Reaching
+mod SpreadLaws
 mod Sublists
 mod TargetsLeft
 mod Terminators

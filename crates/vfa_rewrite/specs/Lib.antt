@@ -1,9 +1,14 @@
 pub mod Alike
+pub mod Asked
 pub mod ByFacts
 pub mod Chains
 pub mod Findings
+pub mod Found
 pub mod Marks
+pub mod Replacing
 pub mod Rewriting
 pub mod Rewritten
 pub mod Sizes
 pub mod Sound
+pub mod Spread
+pub mod Walked

@@ -2,7 +2,14 @@
 //! and operations.
 #![tactic(auto)]
 
+mod asked;
+mod edges;
+mod facts;
+mod found;
 mod laws;
+mod ready;
+mod replacing;
+mod spreading;
 
 pub use laws::{
     chains_end, findings_are_true, findings_fit, fitting_marks_leave_checked, marks_are_one,

@@ -1,0 +1,20 @@
+-- helper: in no public contract
+-- The operands that take the place of names, as they are noted one instruction after another.
+use Rattle.std.specs.Prelude.{◌≡◌, ℕ, if◌then◌else◌, Option, Some, None, List, slice_get}
+use Rattle.vfa_ir.specs.declared.operations.Operand.{Operand}
+use Rattle.vfa_ir.specs.declared.operations.ValueId.{ValueId}
+use Rattle.vfa_ir.specs.declared.functions.Inst.{Inst}
+use Rattle.vfa_rules.specs.Uses.{is_result}
+use Rattle.vfa_rewrite.specs.declared.found.LineFinding.{LineFinding}
+use Rattle.vfa_rewrite.specs.Chains.{other_by}
+use Rattle.vfa_rewrite.specs.Findings.{Findings}
+use Rattle.vfa_rewrite.specs.Found.{kept_line}
+
+-- what takes the place of a name by an instruction with this result, of which this was found
+abbrev pub other_of : ℕ → Option ValueId → Option LineFinding → Option Operand
+other_of n result None = None
+other_of n result (Some line) = if is_result n result then other_by line.change else None
+
+-- what is kept of the instructions of block b
+abbrev pub AreKeptLines : Findings → ℕ → List Inst → List LineFinding → Type 0
+AreKeptLines found b insts lines = (i : ℕ) (inst : Inst) → slice_get insts i ≡ Some inst → slice_get lines i ≡ kept_line found b i inst
