@@ -1,6 +1,7 @@
 mod Asking
 mod Ends
 pub mod Members
+mod Joining
 mod Monotone
 mod Nothing
 mod Parts

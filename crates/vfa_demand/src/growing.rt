@@ -10,8 +10,8 @@ ghost use Rattle.vfa_ir.specs.Operands.{operands_of};
 use crate::rows::{all_bits, asked};
 use vfa_ir::{Block, Function, Inst, Op, Operand, Phi, Term, Ty, ValueId, operand};
 
-/// The width of a number, and of the number of a pair.
-fn number_width(ty: Ty) -> u32
+/// The width of a number, and of the number of a pair: 1 to 128. Of `{ i8, i1 }` it is 8.
+pub fn number_width(ty: Ty) -> u32
     ensures { result ≡ masks.number_width ty }
 {
     match ty {

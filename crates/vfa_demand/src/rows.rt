@@ -145,8 +145,11 @@ fn second_of_binary(bin: Bin, width: u32, other: Operand, mask: u128) -> u128
     }
 }
 
-/// Whether an operation needs all bits of its operands, whatever is asked of its result: divisions, assumptions and calls.
-fn needs_all(op: &Op) -> bool
+/// Whether an operation needs all bits of its operands, whatever is asked of its result: divisions and remainders, which may
+/// be undefined behaviour, assumptions and calls.
+///
+/// `udiv i8 %a, %b` does, `add i8 %a, %b` does not.
+pub fn needs_all(op: &Op) -> bool
     ensures { result ≡ rows.needs_all op.now }
 {
     match op {

@@ -115,6 +115,19 @@ fn each_row_at_its_edges(rt: HostRuntime) {
 }
 
 #[test]
+fn remainders_and_assumptions_need_all_bits(rt: HostRuntime) {
+    assert!(rt; needs_all(&binary(Bin::Srem, 8, name(0), name(1))));
+    assert!(rt; needs_all(&Op::Assume { c: name(0) }));
+    assert!(rt; !needs_all(&binary(Bin::Add, 8, name(0), name(1))));
+}
+
+#[test]
+fn a_pair_has_the_width_of_its_number(rt: HostRuntime) {
+    assert!(rt; number_width(Ty::Pair(8)) == 8);
+    assert!(rt; number_width(Ty::Int(128)) == 128);
+}
+
+#[test]
 fn divisions_and_assumptions_ask_for_all(rt: HostRuntime) {
     let division = binary(Bin::Udiv, 8, name(0), name(1));
     assert!(rt; asked(&division, 8, 0, 0) == 255);
@@ -317,4 +330,11 @@ fn what_stays_uses_its_names(rt: HostRuntime) {
     must.push(Items(last)).expect(&rt, "memory");
     let used = used_names(rt.alloc(), &f, must.as_slice()).expect(&rt, "memory");
     assert!(rt; used.as_slice() == [true, true, true, true, false].as_slice());
+}
+
+#[test]
+fn all_names_in_text_order(rt: HostRuntime) {
+    let f = summing(rt.alloc(), 4).expect(&rt, "memory");
+    let names = names_used(rt.alloc(), &f).expect(&rt, "memory");
+    assert!(rt; names.as_slice() == [0, 1, 1, 2, 4].as_slice());
 }
