@@ -1,5 +1,5 @@
 -- The blocks that are left: what they define and call, and that they are typed and may be printed.
-use Rattle.std.proofs.Common.{◌≡◌, ℕ, suc, ◌+◌, ◌++◌, Bool, true, false, Option, Some, None, List, [], ◌∷◌, map, flat_map, filter_map, length, slice_get, refl, sym, ap, ◌∙◌, subst, inl, inr, arith}
+use Rattle.std.proofs.Common.{◌≡◌, ℕ, suc, ◌+◌, ◌++◌, Bool, true, false, Option, Some, None, List, [], ◌∷◌, map, flat_map, filter_map, length, slice_get, refl, sym, ap, ◌∙◌, subst, inl, inr}
 use Rattle.std.specs.List.{AllByRecursion, cons_option}
 use Rattle.vfa_ir.specs.declared.operations.ValueId.{ValueId}
 use Rattle.vfa_ir.specs.declared.functions.Block.{Block}
@@ -12,6 +12,7 @@ use Rattle.vfa_mean.proofs.FreshOperands.Definitions.{in_cases, first_or_rest}
 use Rattle.vfa_rewrite.specs.Findings.{Findings}
 use Rattle.vfa_rewrite.specs.Marks.{IsLeftLine}
 use Rattle.vfa_rewrite.specs.Rewritten.{Marks, if_left, changed, if_stays, if_met, lines_left, phi_left, kept_phis, phis_if_met, phis_left, rewritten_block}
+use Rattle.vfa_rewrite.proofs.Left.{AreFrom, head_from, rest_from, all_from}
 use Rattle.vfa_rewrite.proofs.LeftLines.{Known, form}
 use Rattle.vfa_rewrite.proofs.LeftParts.{with_fresh, result_with_fresh, places_in, IsGoodLine, lines_good, lines_ids, lines_places}
 use Rattle.vfa_rewrite.proofs.Sublists.{IsSublist, end, skip, keep, sublist_append, sublist_none, sublist_behind, sublist_in}
@@ -62,25 +63,13 @@ both_ids n (Some v) here ids more s t = sublist_append here (with_fresh n v.0) i
 module _ (f : Function) (found : Findings) (m : Marks) (known : Known f found m) (b : ℕ) (block : Block) (there : slice_get f.blocks b ≡ Some block) (reached : m.reached b ≡ true) where
   -- ---- lines
 
-  abbrev AreFrom : List Inst → ℕ → Type 0
-  AreFrom rest n = (j : ℕ) (inst : Inst) → slice_get rest j ≡ Some inst → slice_get block.insts (n + j) ≡ Some inst
-
-  pub head_from : (inst : Inst) (rest : List Inst) (n : ℕ) → AreFrom (inst ∷ rest) n → slice_get block.insts n ≡ Some inst
-  head_from inst rest n from = let z : n + 0 ≡ n = omega arith in sym (ap (slice_get block.insts) z) ∙ from 0 inst refl
-
-  pub rest_from : (inst : Inst) (rest : List Inst) (n : ℕ) → AreFrom (inst ∷ rest) n → AreFrom rest (suc n)
-  rest_from inst rest n from j other e = let z : suc n + j ≡ n + suc j = omega arith in ap (slice_get block.insts) z ∙ from (suc j) other e
-
-  pub all_from : AreFrom block.insts 0
-  all_from j inst e = let z : 0 + j ≡ j = omega arith in ap (slice_get block.insts) z ∙ e
-
-  pub left_line : (inst : Inst) (rest : List Inst) (n : ℕ) → AreFrom (inst ∷ rest) n → m.met b n ≡ true → IsLeftLine f m b block n inst
-  left_line inst rest n from met = record { line = record { there = there; stands = head_from inst rest n from }; reached = reached; met = met }
+  pub left_line : (inst : Inst) (rest : List Inst) (n : ℕ) → AreFrom block.insts (inst ∷ rest) n → m.met b n ≡ true → IsLeftLine f m b block n inst
+  left_line inst rest n from met = record { line = record { there = there; stands = head_from block.insts inst rest n from }; reached = reached; met = met }
 
   pub all_lines : (P : Inst → Type 0) → ((i : ℕ) (inst : Inst) → IsLeftLine f m b block i inst → m.stays b i ≡ true → AllByRecursion P (changed m b i inst)) →
       (rest : List Inst) (n : ℕ) → ((j : ℕ) (inst : Inst) → slice_get rest j ≡ Some inst → slice_get block.insts (n + j) ≡ Some inst) → AllByRecursion P (lines_left m b n rest)
   all_lines P each [] n from = tt
-  all_lines P each (inst ∷ rest) n from = by (m.met b n) refl (all_lines P each rest (suc n) (rest_from inst rest n from))
+  all_lines P each (inst ∷ rest) n from = by (m.met b n) refl (all_lines P each rest (suc n) (rest_from block.insts inst rest n from))
     where
       staying : m.met b n ≡ true → (t : Bool) → m.stays b n ≡ t → AllByRecursion P (lines_left m b (suc n) rest) → AllByRecursion P (if_stays t (changed m b n inst) (lines_left m b (suc n) rest))
       staying met true s later = all_both P (changed m b n inst) (lines_left m b (suc n) rest) (each n inst (left_line inst rest n from met) s) later
@@ -95,12 +84,12 @@ module _ (f : Function) (found : Findings) (m : Marks) (known : Known f found m)
       (λ i inst left stays. all_turned (IsGoodLine f found m known b block i inst left) (λ (line : Inst). (i : ℕ) × (inst : Inst) × (left : IsLeftLine f m b block i inst) × IsGoodLine f found m known b block i inst left line) (changed m b i inst)
       (λ line good. (i, inst, left, good))
       (lines_good f found m known b block i inst left (changed m b i inst) (form f found m known b block i inst left stays)))
-      block.insts 0 all_from
+      block.insts 0 (all_from block.insts)
 
   ids_left : (rest : List Inst) (n : ℕ) → ((j : ℕ) (inst : Inst) → slice_get rest j ≡ Some inst → slice_get block.insts (n + j) ≡ Some inst) →
       IsSublist (inst_ids (lines_left m b n rest)) (flat_map (with_fresh (length f.values)) (inst_ids rest))
   ids_left [] n from = end
-  ids_left (inst ∷ rest) n from = by (m.met b n) refl (ids_left rest (suc n) (rest_from inst rest n from))
+  ids_left (inst ∷ rest) n from = by (m.met b n) refl (ids_left rest (suc n) (rest_from block.insts inst rest n from))
     where
       staying : m.met b n ≡ true → (t : Bool) → m.stays b n ≡ t → IsSublist (inst_ids (lines_left m b (suc n) rest)) (flat_map (with_fresh (length f.values)) (inst_ids rest)) →
           IsSublist (inst_ids (if_stays t (changed m b n inst) (lines_left m b (suc n) rest))) (flat_map (with_fresh (length f.values)) (inst_ids (inst ∷ rest)))
@@ -119,7 +108,7 @@ module _ (f : Function) (found : Findings) (m : Marks) (known : Known f found m)
   places_left : (rest : List Inst) (n : ℕ) → ((j : ℕ) (inst : Inst) → slice_get rest j ≡ Some inst → slice_get block.insts (n + j) ≡ Some inst) →
       IsSublist (places_in (lines_left m b n rest)) (places_in rest)
   places_left [] n from = end
-  places_left (inst ∷ rest) n from = by (m.met b n) refl (places_left rest (suc n) (rest_from inst rest n from))
+  places_left (inst ∷ rest) n from = by (m.met b n) refl (places_left rest (suc n) (rest_from block.insts inst rest n from))
     where
       split : (o : Option ℕ) (xs : List ℕ) → cons_option o [] ++ xs ≡ cons_option o xs
       split None xs = refl
@@ -180,10 +169,10 @@ module _ (f : Function) (found : Findings) (m : Marks) (known : Known f found m)
   pub block_ids_left : IsSublist (block_ids (rewritten_block f m b block)) (flat_map (with_fresh (length f.values)) (block_ids block))
   block_ids_left =
       subst (λ ys. IsSublist (block_ids (rewritten_block f m b block)) ys) (sym (flat_both (with_fresh (length f.values)) (phi_names block.phis) (inst_ids block.insts)))
-      (sublist_append (phi_names (phis_left f m b block.phis)) _ (inst_ids (lines_left m b 0 block.insts)) _ (met_phi_ids (m.met b 0)) (ids_left block.insts 0 all_from))
+      (sublist_append (phi_names (phis_left f m b block.phis)) _ (inst_ids (lines_left m b 0 block.insts)) _ (met_phi_ids (m.met b 0)) (ids_left block.insts 0 (all_from block.insts)))
 
   pub block_places_left : IsSublist (block_call_places (rewritten_block f m b block)) (block_call_places block)
-  block_places_left = places_left block.insts 0 all_from
+  block_places_left = places_left block.insts 0 (all_from block.insts)
 
   -- ---- calls
 
@@ -201,7 +190,7 @@ module _ (f : Function) (found : Findings) (m : Marks) (known : Known f found m)
   calls_from : (rest : List Inst) (n c : ℕ) → ((j : ℕ) (inst : Inst) → slice_get rest j ≡ Some inst → slice_get block.insts (n + j) ≡ Some inst) →
       is_in c (places_in (lines_left m b n rest)) ≡ true → IsCallLeft c
   calls_from [] n c from t = absurd (cc)
-  calls_from (inst ∷ rest) n c from t = by (m.met b n) refl t (calls_from rest (suc n) c (rest_from inst rest n from))
+  calls_from (inst ∷ rest) n c from t = by (m.met b n) refl t (calls_from rest (suc n) c (rest_from block.insts inst rest n from))
     where
       staying : m.met b n ≡ true → (s : Bool) → m.stays b n ≡ s → is_in c (places_in (if_stays s (changed m b n inst) (lines_left m b (suc n) rest))) ≡ true →
           (is_in c (places_in (lines_left m b (suc n) rest)) ≡ true → IsCallLeft c) → IsCallLeft c
@@ -226,4 +215,4 @@ module _ (f : Function) (found : Findings) (m : Marks) (known : Known f found m)
       by false met t again = absurd (cc)
 
   pub call_left_in : (c : ℕ) → is_in c (block_call_places (rewritten_block f m b block)) ≡ true → IsCallLeft c
-  call_left_in c t = calls_from block.insts 0 c all_from t
+  call_left_in c t = calls_from block.insts 0 c (all_from block.insts) t

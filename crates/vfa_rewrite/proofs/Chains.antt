@@ -19,47 +19,15 @@ use Rattle.vfa_mean.specs.Moments.{Place, Into, At, IsLine, is_call}
 use Rattle.vfa_mean.proofs.FreshOperands.Definitions.{or_cases, or_left, or_right, in_first, in_rest, results_to_end, IsDefinition, line_definition}
 use Rattle.vfa_mean.proofs.FreshOperands.Walking.{use_is_defined}
 use Rattle.vfa_rules.specs.declared.change.Change.{Change}
-use Rattle.vfa_rules.specs.Uses.{first_found, is_result}
-use Rattle.vfa_rewrite.specs.Chains.{other_by, other_in, itself, other_within, other_for, if_undecided, becoming, IsWalkedTo}
+use Rattle.vfa_rules.specs.Uses.{is_result}
+use Rattle.vfa_rewrite.specs.Chains.{other_by, other_in, other_for, if_undecided, becoming, IsWalkedTo}
 use Rattle.vfa_rewrite.specs.Findings.{Decision, OneNumber, NoNumber, Undecided, Findings, IsUsable, IsFitting, AreFitting}
 use Rattle.vfa_rewrite.specs.Marks.{IsReplaced, Becomes, number, no_number, replaced, stays, Reached, first, next}
-use Rattle.vfa_rewrite.specs.Rewritten.{with_numbers}
 use Rattle.vfa_rewrite.proofs.Becoming.{names_a, names_b}
 use Rattle.vfa_rewrite.proofs.FreshNames.{named_result}
-use Rattle.vfa_rewrite.proofs.Left.{made_at}
 use Rattle.vfa_rewrite.proofs.LiveOperands.{before_more, before_end, passed_more, passed_here}
+use Rattle.vfa_rewrite.proofs.LookedUp.{looked_up, none_is_given}
 use Rattle.vfa_rewrite.proofs.Ranges.{defines_once, typed_value}
-
--- ---- the first that is found
-
-record IsFound {A : Type 0} (xs : List (Option A)) (u : A) : Type 0 where
-  n : ℕ
-  there : slice_get xs n ≡ Some (Some u)
-
-first_is : (xs : List (Option Operand)) (u : Operand) → first_found itself xs ≡ Some u → IsFound xs u
-first_is [] u h = absurd (cc)
-first_is (None ∷ xs) u h = let r = first_is xs u h in record { n = suc r.n; there = r.there }
-first_is (Some y ∷ xs) u h = record { n = 0; there = ap Some h }
-
-none_is : (xs : List (Option Operand)) → first_found itself xs ≡ None → (n : ℕ) (u : Operand) → slice_get xs n ≡ Some (Some u) → ⊥
-none_is [] h n u t = absurd (cc)
-none_is (None ∷ xs) h zero u t = absurd (cc)
-none_is (None ∷ xs) h (suc n) u t = none_is xs h n u t
-none_is (Some y ∷ xs) h n u t = absurd (cc)
-
-record IsMadeOf {A B : Type 0} (make : ℕ → A → B) (xs : List A) (n k : ℕ) (y : B) : Type 0 where
-  x : A
-  there : slice_get xs n ≡ Some x
-  is : make k x ≡ y
-
-made_of : {A B : Type 0} (make : ℕ → A → B) (i : ℕ) (xs : List A) (n k : ℕ) (y : B) → k ≡ i + n → slice_get (with_numbers make i xs) n ≡ Some y → IsMadeOf make xs n k y
-made_of make i [] n k y e h = absurd (cc)
-made_of make i (x ∷ xs) zero k y e h =
-    let same : i ≡ k = omega (arith, e) in
-    record { x = x; there = refl; is = ap (λ t. make t x) (sym same) ∙ same_Some (make i x) y h }
-made_of make i (x ∷ xs) (suc n) k y e h =
-    let r = made_of make (suc i) xs n k y (omega (arith, e)) h in
-    record { x = r.x; there = r.there; is = r.is }
 
 -- ---- the operand that takes the place of a name
 
@@ -91,28 +59,16 @@ module _ (f : Function) (found : Findings) where
       by true false e g h = absurd (cc)
       by false t e g h = absurd (cc)
 
-  other_is : (n : ℕ) (u : Operand) → other_for f found n ≡ Some u → IsReplaced f found n u
-  other_is n u h =
-      let at_block = first_is (with_numbers (other_within found n) 0 f.blocks) u h in
-      let of = made_of (other_within found n) 0 f.blocks at_block.n at_block.n (Some u) (omega arith) at_block.there in
-      let at_line = first_is (with_numbers (other_in found n at_block.n) 0 of.x.insts) u of.is in
-      let by = made_of (other_in found n at_block.n) 0 of.x.insts at_line.n at_line.n (Some u) (omega arith) at_line.there in
-      line_replaces n at_block.n at_line.n of.x by.x u (record { there = of.there; stands = by.there }) by.is
+  pub other_is : (n : ℕ) (u : Operand) → other_for f found n ≡ Some u → IsReplaced f found n u
+  other_is n u h = let r = looked_up f (λ b. true) (other_in found n) u h in line_replaces n r.b r.i r.block r.inst u r.line r.is
 
   none_replaces : (n : ℕ) → other_for f found n ≡ None → (u : Operand) → IsReplaced f found n u → ⊥
-  none_replaces n h u r = by (other_within found n r.b r.block) refl
-    where
-      result_is : is_result n r.inst.result ≡ true
-      result_is = ap (is_result n) r.result ∙ eq-eqb r.name.0 n r.same
-
-      here : other_in found n r.b r.i r.inst ≡ Some u
-      here = ap (λ t. if t && found.met r.b r.i then other_by (found.change r.b r.i r.inst) else None) result_is
-          ∙ ap (λ t. if t then other_by (found.change r.b r.i r.inst) else None) r.met ∙ ap other_by r.uses
-
-      by : (o : Option Operand) → other_within found n r.b r.block ≡ o → ⊥
-      by None e = none_is (with_numbers (other_in found n r.b) 0 r.block.insts) e r.i u
-          (made_at (other_in found n r.b) r.block.insts r.i r.inst r.line.stands ∙ ap Some here)
-      by (Some v) e = none_is (with_numbers (other_within found n) 0 f.blocks) h r.b v (made_at (other_within found n) f.blocks r.b r.block r.line.there ∙ ap Some e)
+  none_replaces n h u r =
+      let result : is_result n r.inst.result ≡ true = ap (is_result n) r.result ∙ eq-eqb r.name.0 n r.same in
+      let is : other_in found n r.b r.i r.inst ≡ Some u =
+      ap (λ t. if t && found.met r.b r.i then other_by (found.change r.b r.i r.inst) else None) result
+      ∙ ap (λ t. if t then other_by (found.change r.b r.i r.inst) else None) r.met ∙ ap other_by r.uses in
+      none_is_given f (λ b. true) (other_in found n) h u (record { b = r.b; i = r.i; block = r.block; inst = r.inst; line = r.line; is_left = refl; is = is })
 
 -- ---- counting names
 
@@ -250,7 +206,7 @@ module _ (f : Function) (printable : IsPrintable f) (defined : Defined f) (found
     | inl call ↦ absurd (let kept = fitting.call r.b r.block r.i r.inst r.line call in let uses = r.uses in cc)
   ]
 
-  replaced_fits : (n : ℕ) (u : Operand) (r : IsReplaced f found n u) → IsFitting f r.inst.op (Change.Uses u)
+  pub replaced_fits : (n : ℕ) (u : Operand) (r : IsReplaced f found n u) → IsFitting f r.inst.op (Change.Uses u)
   replaced_fits n u r =
       subst (λ c. IsFitting f r.inst.op c) r.uses (fitting.change r.b r.block r.i r.inst r.line r.met (replaced_plain n u r)).fits
 

@@ -179,7 +179,7 @@ module _ (f : Function) (printable : IsPrintable f) (typed : Typed f) where
       let is = subst (λ op. IsTypedOp f op) l.operation (line_is_typed f printable typed l.block_number l.line_number l.block l.inst l.line) in
       (is.ranges, is.operands)
 
-  fitting : (s : FactState) (inst : Inst) → IsTypedOp f inst.op → IsFitting f (facts_known f s inst) inst.op
+  pub fitting : (s : FactState) (inst : Inst) → IsTypedOp f inst.op → IsFitting f (facts_known f s inst) inst.op
   fitting s inst is = record { printable = is.ranges; typed = is.operands; call = by inst.op refl }
     where
       by : (op : Op) → inst.op ≡ op → FitsCall f (facts_known f s inst) op

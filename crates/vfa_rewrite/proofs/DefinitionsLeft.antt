@@ -23,8 +23,9 @@ use Rattle.vfa_mean.proofs.FreshOperands.Definitions.{or_cases, or_left, or_righ
 use Rattle.vfa_rewrite.specs.Findings.{Findings}
 use Rattle.vfa_rewrite.specs.Marks.{IsLeftLine, by_end, by_phi, ResultIsKept}
 use Rattle.vfa_rewrite.specs.Rewritten.{Marks, with_numbers, if_left, line_of, name_of, truncation, truncated_operand, narrowed, changed, if_stays, if_met, lines_left, term_left, kept_phis, phis_if_met, phis_left, phi_left, entries_left, edges_of, rewritten_block, emptied, if_block_left, block_left, rewritten}
-use Rattle.vfa_rewrite.proofs.BlocksLeft.{from_get, all_both, picked_both, all_met_phis, head_from, rest_from, all_from, left_line}
+use Rattle.vfa_rewrite.proofs.BlocksLeft.{from_get, all_both, picked_both, all_met_phis, left_line}
 use Rattle.vfa_rewrite.proofs.EdgesLeft.{edge_left, is_edge_left, block_at, reached_block, same_walk, met_earlier, count_of}
+use Rattle.vfa_rewrite.proofs.Left.{head_from, rest_from, all_from}
 use Rattle.vfa_rewrite.proofs.LeftLines.{Known, Form, one, division, form, marked}
 use Rattle.vfa_rewrite.proofs.LeftParts.{lines_give}
 use Rattle.vfa_rewrite.proofs.LiveOperands.{before_more}
@@ -160,10 +161,10 @@ module _ (f : Function) (found : Findings) (m : Marks) (known : Known f found m)
           is_in x (inst_ids rest) ≡ true → is_in x (inst_ids (lines_left m b n rest)) ≡ true
       ids_stay [] n from x kept t = t
       ids_stay (inst ∷ rest) n from x kept t =
-          let below = get_within block.insts n inst (head_from f found m known b block there reached inst rest n from) in
+          let below = get_within block.insts n inst (head_from block.insts inst rest n from) in
           let met = met_earlier f found m known b block (length block.insts) n there (le_refl (length block.insts)) (omega (arith, below)) end_met in
           subst (λ s. is_in x (inst_ids (if_met s (if_stays (m.stays b n) (changed m b n inst) (lines_left m b (suc n) rest)))) ≡ true) (sym met)
-          (by (left_line f found m known b block there reached inst rest n from met) (ids_stay rest (suc n) (rest_from f found m known b block there reached inst rest n from) x kept))
+          (by (left_line f found m known b block there reached inst rest n from met) (ids_stay rest (suc n) (rest_from block.insts inst rest n from) x kept))
         where
           behind : (s : Bool) → is_in x (inst_ids (lines_left m b (suc n) rest)) ≡ true → is_in x (inst_ids (if_stays s (changed m b n inst) (lines_left m b (suc n) rest))) ≡ true
           behind true u = ap (is_in x) (picked_both id_of (changed m b n inst) (lines_left m b (suc n) rest)) ∙ in_right x (inst_ids (changed m b n inst)) (inst_ids (lines_left m b (suc n) rest)) u
@@ -190,7 +191,7 @@ module _ (f : Function) (found : Findings) (m : Marks) (known : Known f found m)
           subst (λ o. is_in x (elim o [ None ↦ [] | Some c ↦ block_ids c ]) ≡ true) (sym left_there)
           (elim (in_cases x (phi_ids block.phis) (inst_ids block.insts) old) [
             | inl p ↦ in_left x (phi_ids (phis_left f m b block.phis)) (inst_ids (lines_left m b 0 block.insts)) (met_phi_stays x first_met kept p)
-            | inr l ↦ in_right x (phi_ids (phis_left f m b block.phis)) (inst_ids (lines_left m b 0 block.insts)) (ids_stay block.insts 0 (all_from f found m known b block there reached) x kept l)
+            | inr l ↦ in_right x (phi_ids (phis_left f m b block.phis)) (inst_ids (lines_left m b 0 block.insts)) (ids_stay block.insts 0 (all_from block.insts) x kept l)
           ])
 
   -- ---- along a walk
@@ -253,7 +254,7 @@ module _ (f : Function) (found : Findings) (m : Marks) (known : Known f found m)
     pub moved_end : (x : ℕ) → m.met b (length block.insts) ≡ true → m.keeps x ≡ true → IsDefinedAt f b (length block.insts) x → IsDefinedAt (rewritten f m) b (length (lines_left m b 0 block.insts)) x
     moved_end x met kept live =
         moved (length block.insts) (lines_left m b 0 block.insts) [] x (first_met b block there reached met) (none_behind (lines_left m b 0 block.insts))
-        (λ y k t. ids_stay b block there reached met block.insts 0 (all_from f found m known b block there reached) y k
+        (λ y k t. ids_stay b block there reached met block.insts 0 (all_from block.insts) y k
         (subst (λ ls. is_in y (inst_ids ls) ≡ true) (take_all (length block.insts) block.insts (le_refl (length block.insts))) t))
         kept live
 
@@ -375,10 +376,10 @@ module _ (f : Function) (found : Findings) (m : Marks) (known : Known f found m)
         AllByRecursion IsUse (inst_uses (rewritten f m) b (length pre) (lines_left m b i rest))
     lines_used [] i pre from split has = tt
     lines_used (inst ∷ rest) i pre from split has = by (m.met b i) refl split
-        (λ more e h. lines_used rest (suc i) more (rest_from f found m known b block there reached inst rest i from) e h)
+        (λ more e h. lines_used rest (suc i) more (rest_from block.insts inst rest i from) e h)
       where
         stands : slice_get block.insts i ≡ Some inst
-        stands = head_from f found m known b block there reached inst rest i from
+        stands = head_from block.insts inst rest i from
 
         now_used : (left : IsLeftLine f m b block i inst) (t : Bool) → m.stays b i ≡ t → lines_left m b 0 block.insts ≡ pre ++ (if_stays t (changed m b i inst) [] ++ lines_left m b (suc i) rest) →
             AllByRecursion IsUse (inst_uses (rewritten f m) b (length pre) (if_stays t (changed m b i inst) []))
@@ -442,7 +443,7 @@ module _ (f : Function) (found : Findings) (m : Marks) (known : Known f found m)
       (flat_all IsUse (phi_uses (rewritten f m)) (phis_left f m b block.phis)
       (all_met_phis f found m known b block there reached (λ (p : Phi). AllByRecursion IsUse (phi_uses (rewritten f m) p)) (λ j phi e k met. phi_used b block there reached j phi e k met)))
       (all_both IsUse (inst_uses (rewritten f m) b 0 (lines_left m b 0 block.insts)) _
-      (lines_used b block there reached block.insts 0 [] (all_from f found m known b block there reached) refl (λ x kept t. t))
+      (lines_used b block there reached block.insts 0 [] (all_from block.insts) refl (λ x kept t. t))
       (term_used b block there reached))
 
   blocks_used : (blocks : List Block) (n : ℕ) → ((j : ℕ) (c : Block) → slice_get blocks j ≡ Some c → slice_get f.blocks (n + j) ≡ Some c) →

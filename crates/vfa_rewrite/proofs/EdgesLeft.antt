@@ -10,7 +10,7 @@ use Rattle.vfa_ir.specs.PhisFit.{targets, edge_count}
 use Rattle.vfa_ir.specs.Walks.{IsEdge, IsWalk, is_in}
 use Rattle.vfa_mean.specs.Moments.{At}
 use Rattle.vfa_mean.specs.Outcomes.{first_block}
-use Rattle.vfa_rewrite.specs.Findings.{Findings}
+use Rattle.vfa_rewrite.specs.Findings.{Findings, AreFitting}
 use Rattle.vfa_rewrite.specs.Marks.{Reached, first, next}
 use Rattle.vfa_rewrite.specs.Rewritten.{Marks, with_numbers, shrunk, term_if_met, edges_from, if_reached, edges_of, rewritten_block, emptied, if_block_left, block_left, rewritten}
 use Rattle.vfa_rewrite.proofs.LeftLines.{Known}
@@ -71,11 +71,31 @@ left_block f m b block' e = here (slice_get f.blocks b) refl (sym (block_or f m 
     here None k e = absurd (cc)
     here (Some block) k e = record { block = block; there = k; is = same_Some (block_left f m b block) block' e }
 
+-- ---- places before one that is met are met
+
+abbrev lines_in : Option Block → ℕ
+lines_in o = elim o [ None ↦ 0 | Some block ↦ length block.insts ]
+
+pub met_up_to : (f : Function) (found : Findings) → AreFitting f found → (b : ℕ) (block : Block) → slice_get f.blocks b ≡ Some block → (i j : ℕ) → i ≤ length block.insts → j ≤ i →
+    found.met b i ≡ true → found.met b j ≡ true
+met_up_to f found fits b block there zero j within l met = let z : j ≡ 0 = omega (arith, l) in subst (λ k. found.met b k ≡ true) (sym z) met
+met_up_to f found fits b block there (suc i) j within l met = by (nat_eq j (suc i)) refl (λ k. met_up_to f found fits b block there i j (omega (arith, within)) k earlier)
+  where
+    count : line_count f b ≡ length block.insts
+    count = ap lines_in there
+
+    earlier : found.met b i ≡ true
+    earlier = fits.met_before b i (let c = count in omega (arith, within, c)) met
+
+    less : (j ≡ suc i → ⊥) → j ≤ i
+    less a = omega (arith, l, a)
+
+    by : (t : Bool) → nat_eq j (suc i) ≡ t → (j ≤ i → found.met b j ≡ true) → found.met b j ≡ true
+    by true e again = let s = eqb-true j (suc i) e in subst (λ k. found.met b k ≡ true) (sym s) met
+    by false e again = again (less (eqb-false j (suc i) e))
+
 module _ (f : Function) (found : Findings) (m : Marks) (known : Known f found m) where
   -- ---- edges
-
-  abbrev lines_in : Option Block → ℕ
-  lines_in o = elim o [ None ↦ 0 | Some block ↦ length block.insts ]
 
   pub count_of : (b : ℕ) (block : Block) → slice_get f.blocks b ≡ Some block → line_count f b ≡ length block.insts
   count_of b block there = ap lines_in there
@@ -196,16 +216,5 @@ module _ (f : Function) (found : Findings) (m : Marks) (known : Known f found m)
   -- ---- lines that are met
 
   pub met_earlier : (b : ℕ) (block : Block) (i j : ℕ) → slice_get f.blocks b ≡ Some block → i ≤ length block.insts → j ≤ i → m.met b i ≡ true → m.met b j ≡ true
-  met_earlier b block zero j there within l met = let z : j ≡ 0 = omega (arith, l) in subst (λ k. m.met b k ≡ true) (sym z) met
-  met_earlier b block (suc i) j there within l met = by (nat_eq j (suc i)) refl (λ k. met_earlier b block i j there (omega (arith, within)) k earlier)
-    where
-      earlier : m.met b i ≡ true
-      earlier = known.marks.met b i
-          ∙ known.fits.met_before b i (let c = count_of b block there in omega (arith, within, c)) (sym (known.marks.met b (suc i)) ∙ met)
-
-      less : (j ≡ suc i → ⊥) → j ≤ i
-      less a = omega (arith, l, a)
-
-      by : (t : Bool) → nat_eq j (suc i) ≡ t → (j ≤ i → m.met b j ≡ true) → m.met b j ≡ true
-      by true e again = let s = eqb-true j (suc i) e in subst (λ k. m.met b k ≡ true) (sym s) met
-      by false e again = again (less (eqb-false j (suc i) e))
+  met_earlier b block i j there within l met =
+      known.marks.met b j ∙ met_up_to f found known.fits b block there i j within l (sym (known.marks.met b i) ∙ met)

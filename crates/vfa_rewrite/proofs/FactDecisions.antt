@@ -67,7 +67,7 @@ cell_decides c Val.Poison h only (Some n) e (Some x) i = tt
 cell_decides c (Val.Number y) h only (Some n) e (Some x) i = ap Val.Number (only x y i h)
 cell_decides c (Val.Pair y o) h only (Some n) e (Some x) i = absurd h
 
-parts_decide : (t : Ty) (p : Parts) (v : Val) → IsOf fact_type IsAnyFact t (record { parts = p }) → HoldsOf (record { parts = p }) v → DecisionHolds (decision_of p) v
+pub parts_decide : (t : Ty) (p : Parts) (v : Val) → IsOf fact_type IsAnyFact t (record { parts = p }) → HoldsOf (record { parts = p }) v → DecisionHolds (decision_of p) v
 parts_decide t (Parts.One c) v of h =
     cell_decides c v h (λ x y e k. fact_laws.sound.single t (record { parts = Parts.One c }) x y of e k) c.numbers refl (single_in c) refl
 parts_decide t (Parts.Two c d) v of h = tt

@@ -81,7 +81,7 @@ module _ (f : Function) (t : FactTable) where
       by rest None h = refl
       by rest (Some u) h = rest u h
 
-  none_next : (b i : ℕ) → fact_state f t (At b i) ≡ None → fact_state f t (At b (suc i)) ≡ None
+  pub none_next : (b i : ℕ) → fact_state f t (At b i) ≡ None → fact_state f t (At b (suc i)) ≡ None
   none_next b i e = by (t b) e
     where
       by : (o : Option FactState) → followed (before_line fact_answers f b i) o ≡ None → followed (before_line fact_answers f b (suc i)) o ≡ None
@@ -100,12 +100,18 @@ module _ (f : Function) (t : FactTable) where
       by : (d : ℕ) → j ≡ i + d → fact_state f t (At b i) ≡ None → fact_state f t (At b j) ≡ None
       by d e g = none_after b i d j e g
 
+  pub none_at_end : (b k : ℕ) (inst : Inst) → slice_get (insts_of f b) k ≡ Some inst → fact_state f t (At b (k + 1)) ≡ None → fact_state f t (At b (line_count f b)) ≡ None
+  none_at_end b k inst stands none =
+      let inside = slice_get_within (insts_of f b) k inst stands in
+      let count = count_is f b in
+      none_later b (k + 1) (line_count f b) (omega (arith, inside, count)) none
+
   -- ---- a block that no run comes to
 
   abbrev pub AreLines : ℕ → List LineFinding → Type 0
   AreLines b lines = (i : ℕ) (inst : Inst) → slice_get (insts_of f b) i ≡ Some inst → slice_get lines i ≡ kept_line (findings_of f t) b i inst
 
-  no_state : (b i : ℕ) → t b ≡ None → fact_state f t (At b i) ≡ None
+  pub no_state : (b i : ℕ) → t b ≡ None → fact_state f t (At b i) ≡ None
   no_state b i e = ap (followed (before_line fact_answers f b i)) e
 
   pub no_lines : (b : ℕ) → t b ≡ None → AreLines b []
@@ -116,24 +122,71 @@ module _ (f : Function) (t : FactTable) where
 
   -- ---- one step after another
 
-  pub record IsGoing (b : BlockId) (k : ℕ) (c : Cursor AnyFact) (lines : List LineFinding) : Type 0 where
+  -- the cursor stands before instruction k of block b
+  pub record IsStanding (b : BlockId) (k : ℕ) (c : Cursor AnyFact) : Type 0 where
     pub block : c.block ≡ b
     pub line : c.line ≡ k
     pub has : HasState f (fact_state f t (At b.0 k)) c
+
+  pub record IsGoing (b : BlockId) (k : ℕ) (c : Cursor AnyFact) (lines : List LineFinding) : Type 0 where
+    pub standing : IsStanding b k c
     pub count : length lines ≡ k
     pub made : (i : ℕ) (inst : Inst) → i < k → slice_get (insts_of f b.0) i ≡ Some inst → slice_get lines i ≡ kept_line (findings_of f t) b.0 i inst
 
-  pub begins : (b : BlockId) (c : Cursor AnyFact) → IsAtEntry t b c → IsStateOf fact_type IsAnyFact f c.state → IsGoing b 0 c []
-  begins b c at kept = record {
+  pub stands_first : (b : BlockId) (c : Cursor AnyFact) → IsAtEntry t b c → IsStateOf fact_type IsAnyFact f c.state → IsStanding b 0 c
+  stands_first b c at kept = record {
     block = at.block;
     line = at.line;
     has = record { reached = at.reached; known = ap (followed (before_line fact_answers f b.0 0)) at.entry; kept = kept };
+  }
+
+  pub begins : (b : BlockId) (c : Cursor AnyFact) → IsAtEntry t b c → IsStateOf fact_type IsAnyFact f c.state → IsGoing b 0 c []
+  begins b c at kept = record {
+    standing = stands_first b c at kept;
     count = refl;
     made = λ i inst less h. absurd (omega (arith, less));
   }
 
   at_place : (b : BlockId) (k : ℕ) (c : Cursor AnyFact) → c.block ≡ b → c.line ≡ k → fact_state f t (At b.0 k) ≡ fact_state f t (At c.block.0 c.line)
   at_place b k c e d = ap (λ (x : BlockId). fact_state f t (At x.0 k)) (sym e) ∙ ap (λ n. fact_state f t (At c.block.0 n)) (sym d)
+
+  module _ (b : BlockId) (k : ℕ) (c : Cursor AnyFact) (standing : IsStanding b k c) where
+    pub stands_on : (d : Cursor AnyFact) → HasGoneOn fact_answers f c d → IsStateOf fact_type IsAnyFact f d.state → IsStanding b (k + 1) d
+    stands_on d went kept =
+        let block = went.block ∙ standing.block in
+        let line = went.line ∙ ap (λ n. n + 1) standing.line in
+        record {
+          block = block;
+          line = line;
+          has = record {
+            reached = went.reached;
+            known = at_place b (k + 1) d block line ∙ goes_on_there fact_answers f t c d went (sym (at_place b k c standing.block standing.line) ∙ standing.has.known);
+            kept = kept;
+          };
+        }
+
+    -- the cursor has not gone on, so no run comes to the next instruction
+    pub none_behind : (inst : Inst) → slice_get (insts_of f b.0) k ≡ Some inst → (moved : Moved) (d : Cursor AnyFact) → (moved ≡ Moved.On → ⊥) → IsMoved fact_answers f c moved d →
+        fact_state f t (At b.0 (k + 1)) ≡ None
+    none_behind inst stands Moved.On d not_on is = absurd (not_on refl)
+    none_behind inst stands Moved.AtTerm d not_on is = absurd (
+        let there : slice_get (insts_of f c.block.0) c.line ≡ Some inst =
+        ap (λ (x : BlockId). slice_get (insts_of f x.0) c.line) standing.block ∙ (ap (λ n. slice_get (insts_of f b.0) n) standing.line ∙ stands) in
+        let behind = is.behind in
+        cc
+        )
+    none_behind inst stands Moved.Bottom d not_on is = elim is.1 [
+      | inl gone ↦ absurd (let reached = standing.has.reached in cc)
+      | inr stop ↦
+          ap (λ (x : BlockId). fact_state f t (At x.0 (k + 1))) (sym standing.block)
+          ∙ (ap (λ n. fact_state f t (At c.block.0 (n + 1))) (sym standing.line)
+          ∙ stops_there fact_answers f t c stop (sym (at_place b k c standing.block standing.line) ∙ standing.has.known))
+    ]
+
+    pub stands_at_end : k ≡ length (insts_of f b.0) → HasState f (fact_state f t (At b.0 (line_count f b.0))) c
+    stands_at_end all =
+        let count = count_is f b.0 in
+        subst (λ n. HasState f (fact_state f t (At b.0 n)) c) (let same : k ≡ line_count f b.0 = omega (arith, count, all) in same) standing.has
 
   module _ (b : BlockId) (k : ℕ) (c : Cursor AnyFact) (lines : List LineFinding) (inst : Inst) (going : IsGoing b k c lines) (stands : slice_get (insts_of f b.0) k ≡ Some inst) where
     abbrev pub here : LineFinding
@@ -148,40 +201,14 @@ module _ (f : Function) (t : FactTable) where
             let same : i ≡ k = omega (arith, less, past) in
             let inst_is : inst ≡ x = let at_k : slice_get (insts_of f b.0) k ≡ Some x = subst (λ n. slice_get (insts_of f b.0) n ≡ Some x) same h in cc in
             subst (λ n. slice_get (lines ++ (here ∷ [])) n ≡ kept_line (findings_of f t) b.0 n x) (sym same)
-            (get_last lines here k going.count ∙ (ap (λ y. Some (line_by f (known c.state) y)) inst_is ∙ sym (kept_some b.0 k x (known c.state) going.has.known)))
+            (get_last lines here k going.count ∙ (ap (λ y. Some (line_by f (known c.state) y)) inst_is ∙ sym (kept_some b.0 k x (known c.state) going.standing.has.known)))
 
     pub goes_on : (d : Cursor AnyFact) → HasGoneOn fact_answers f c d → IsStateOf fact_type IsAnyFact f d.state → IsGoing b (k + 1) d (lines ++ (here ∷ []))
-    goes_on d went kept =
-        let block = went.block ∙ going.block in
-        let line = went.line ∙ ap (λ n. n + 1) going.line in
-        record {
-          block = block;
-          line = line;
-          has = record {
-            reached = went.reached;
-            known = at_place b (k + 1) d block line ∙ goes_on_there fact_answers f t c d went (sym (at_place b k c going.block going.line) ∙ going.has.known);
-            kept = kept;
-          };
-          count = length_push lines here ∙ ap (λ n. n + 1) going.count;
-          made = made_here;
-        }
-
-    -- the cursor has not gone on, so no run comes to the next instruction
-    pub none_behind : (moved : Moved) (d : Cursor AnyFact) → (moved ≡ Moved.On → ⊥) → IsMoved fact_answers f c moved d → fact_state f t (At b.0 (k + 1)) ≡ None
-    none_behind Moved.On d not_on is = absurd (not_on refl)
-    none_behind Moved.AtTerm d not_on is = absurd (
-        let there : slice_get (insts_of f c.block.0) c.line ≡ Some inst =
-        ap (λ (x : BlockId). slice_get (insts_of f x.0) c.line) going.block ∙ (ap (λ n. slice_get (insts_of f b.0) n) going.line ∙ stands) in
-        let behind = is.behind in
-        cc
-        )
-    none_behind Moved.Bottom d not_on is = elim is.1 [
-      | inl gone ↦ absurd (let reached = going.has.reached in cc)
-      | inr stop ↦
-          ap (λ (x : BlockId). fact_state f t (At x.0 (k + 1))) (sym going.block)
-          ∙ (ap (λ n. fact_state f t (At c.block.0 (n + 1))) (sym going.line)
-          ∙ stops_there fact_answers f t c stop (sym (at_place b k c going.block going.line) ∙ going.has.known))
-    ]
+    goes_on d went kept = record {
+      standing = stands_on b k c going.standing d went kept;
+      count = length_push lines here ∙ ap (λ n. n + 1) going.count;
+      made = made_here;
+    }
 
     pub stopped_lines : fact_state f t (At b.0 (k + 1)) ≡ None → AreLines b.0 (lines ++ (here ∷ []))
     stopped_lines none i x h = by (below_or_not i (k + 1))
@@ -193,10 +220,7 @@ module _ (f : Function) (t : FactTable) where
             ∙ sym (kept_none b.0 i x (none_later b.0 (k + 1) i (omega (arith, past)) none))
 
     pub stopped_end : fact_state f t (At b.0 (k + 1)) ≡ None → fact_state f t (At b.0 (line_count f b.0)) ≡ None
-    stopped_end none =
-        let inside = slice_get_within (insts_of f b.0) k inst stands in
-        let count = count_is f b.0 in
-        none_later b.0 (k + 1) (line_count f b.0) (omega (arith, inside, count)) none
+    stopped_end none = none_at_end b.0 k inst stands none
 
   -- ---- at the end
 
@@ -207,9 +231,7 @@ module _ (f : Function) (t : FactTable) where
 
   pub at_end : (b : BlockId) (k : ℕ) (c : Cursor AnyFact) (lines : List LineFinding) → IsGoing b k c lines → k ≡ length (insts_of f b.0) →
       HasState f (fact_state f t (At b.0 (line_count f b.0))) c
-  at_end b k c lines going all =
-      let count = count_is f b.0 in
-      subst (λ n. HasState f (fact_state f t (At b.0 n)) c) (let same : k ≡ line_count f b.0 = omega (arith, count, all) in same) going.has
+  at_end b k c lines going all = stands_at_end b k c going.standing all
 
 -- ---- instructions of a block
 
@@ -244,7 +266,7 @@ module _ (f checked : Function) (same : f ≡ checked) (t : FactTable) (b : Bloc
         (subst (λ g. IsStateOf fact_type IsAnyFact g e.state) (sym same) (kept went.reached)))
 
     none_next_place : (moved : Moved) (e : Cursor AnyFact) → (moved ≡ Moved.On → ⊥) → IsMoved fact_answers checked c moved e → fact_state f t (At b.0 (k + 1)) ≡ None
-    none_next_place moved e not_on is = none_behind f t b k c lines (get_or insts k d) going stands moved e not_on (subst (λ g. IsMoved fact_answers g c moved e) (sym same) is)
+    none_next_place moved e not_on is = none_behind f t b k c going.standing (get_or insts k d) stands moved e not_on (subst (λ g. IsMoved fact_answers g c moved e) (sym same) is)
 
     pub lines_stopped : (moved : Moved) (e : Cursor AnyFact) → (moved ≡ Moved.On → ⊥) → IsMoved fact_answers checked c moved e → AreLines f t b.0 new
     lines_stopped moved e not_on is =

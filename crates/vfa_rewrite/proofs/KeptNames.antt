@@ -60,7 +60,7 @@ changed_plain f old (Change.Narrow (Op.Call w call) v) fits plain = absurd fits
 
 -- ---- terminators
 
-shrunk_names : (put : Operand → Operand) (left : ℕ → Bool) (term : Term) (n : ℕ) → is_in n (term_names (shrunk put left term)) ≡ true →
+pub shrunk_names : (put : Operand → Operand) (left : ℕ → Bool) (term : Term) (n : ℕ) → is_in n (term_names (shrunk put left term)) ≡ true →
     is_in n (operand_names (put (term_operand term))) ≡ true
 shrunk_names put left (Term.Ret w a) n t = t
 shrunk_names put left (Term.Br to) n t = by (left 0) t
@@ -209,7 +209,7 @@ module _ (f : Function) (printable : IsPrintable f) (typed : Typed f) (defined :
   kept_below n (by_line b block i inst name k left result kept uses) = line_below b block i inst left k uses
   kept_below n (by_phi b block j phi k e x there reached met phi_at kept entry_at entered t) =
       put_below (Into (Some e.1.0) b) (Ty.Int phi.width) e.0 (m.put (Into (Some e.1.0) b) e.0) x
-      (entry_usable f printable typed defined found holds m marks b block there reached j k phi e phi_at entry_at)
+      (entry_usable f printable typed defined b block there j k phi e phi_at entry_at)
       (entry_becomes f printable typed defined found holds m marks b block there reached j k phi e phi_at entry_at entered) t
 
   new_is_unused : (n : ℕ) → length f.values ≤ n → m.keeps n ≡ false

@@ -1,15 +1,22 @@
+pub mod Agreement
 mod Asking
 mod Becoming
 mod BlocksLeft
+mod BlocksPut
+mod CallsPut
 mod Chains
 mod ChangeForms
 mod ChangePrints
 mod CheckedLeft
 mod DefinitionsLeft
 mod EdgesLeft
+mod EntriesPut
+mod Expanded
 mod FactChanges
 mod FactDecisions
 mod FindingsFit
+mod FirstStep
+mod FirstUses
 mod FreshNames
 mod Goings
 mod Instructions
@@ -19,25 +26,43 @@ mod Left
 mod LeftLines
 mod LeftParts
 mod Lines
+mod LinesPut
 mod LiveOperands
 mod Lockstep
+mod LookedUp
+mod MadeAdded
+mod MadeCalls
+mod MadeKept
+mod MadeMarks
+mod MadeOperands
 mod MarkedBlocks
 mod MarkedLines
+mod NamesUsed
+mod NarrowedDivisions
 mod Narrowing
 mod Noting
+mod Numbered
 mod OneFunction
 mod OneMarks
 mod OneOperand
+mod OperandsPut
 mod Operations
 mod OutEdges
 mod Phis
 mod PhisLeft
+mod PhisPut
+mod PrintedLines
+pub mod PrintedNumbers
 mod PutOperands
 mod Ranges
 mod Reaching
 mod SpreadLaws
+pub mod Stepped
+pub mod SteppedNumbers
 mod Sublists
+mod TableFacts
+mod TableMarks
 mod TargetsLeft
 mod Terminators
 mod TermsLeft
-pub mod Agreement
+mod TermsPut

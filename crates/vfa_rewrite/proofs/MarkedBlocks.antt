@@ -97,6 +97,17 @@ at_all P [] j x h e = absurd (cc)
 at_all P (y ∷ xs) zero x h e = subst P (same_Some y x e) h.0
 at_all P (y ∷ xs) (suc j) x h e = at_all P xs j x h.1 e
 
+module _ (f : Function) (printable : IsPrintable f) (typed : Typed f) (defined : Defined f) (b : ℕ) (block : Block) (there : slice_get f.blocks b ≡ Some block) where
+  -- an operand of a phi may be used before the phis, where its block is entered from the entry's
+  pub entry_usable : (j k : ℕ) (phi : Phi) (e : Operand × BlockId) → slice_get block.phis j ≡ Some phi → slice_get phi.entries k ≡ Some e →
+      IsUsable f (Into (Some e.1.0) b) (Ty.Int phi.width) e.0
+  entry_usable j k phi e phi_at entry_at =
+      let prints = each_of (PrintablePhi f) block.phis j phi (each_of (PrintableBlock f) f.blocks b block printable.blocks there).phis phi_at in
+      let range = (each_of (λ (e : Operand × BlockId). IsOperand f phi.width e.0 × IsBlock f e.1) phi.entries k e prints.entries entry_at).0 in
+      let of_type = each_of (λ (e : Operand × BlockId). IsOfType f (Ty.Int phi.width) e.0) phi.entries k e
+      (each_of (TypedPhi f) block.phis j phi (each_of (TypedBlock f) f.blocks b block typed there).phis phi_at) entry_at in
+      usable_operand f (Into (Some e.1.0) b) phi.width e.0 (written_width phi.width prints.width) of_type range (λ n t. entry_defined f defined b block there j k phi e n phi_at entry_at t)
+
 module _ (f : Function) (printable : IsPrintable f) (typed : Typed f) (defined : Defined f) (found : Findings) (holds : AreTrue f found) (m : Marks) (marks : AreMarks f found m) where
   module _ (b : ℕ) (block : Block) (there : slice_get f.blocks b ≡ Some block) (reached : m.reached b ≡ true) where
     pub own : BlockIsMarked f found m b block
@@ -110,15 +121,6 @@ module _ (f : Function) (printable : IsPrintable f) (typed : Typed f) (defined :
 
     -- ---- phis
 
-    pub entry_usable : (j k : ℕ) (phi : Phi) (e : Operand × BlockId) → slice_get block.phis j ≡ Some phi → slice_get phi.entries k ≡ Some e →
-        IsUsable f (Into (Some e.1.0) b) (Ty.Int phi.width) e.0
-    entry_usable j k phi e phi_at entry_at =
-        let range = (each_of (λ (e : Operand × BlockId). IsOperand f phi.width e.0 × IsBlock f e.1) phi.entries k e
-        (each_of (PrintablePhi f) block.phis j phi printed.phis phi_at).entries entry_at).0 in
-        let of_type = each_of (λ (e : Operand × BlockId). IsOfType f (Ty.Int phi.width) e.0) phi.entries k e (each_of (TypedPhi f) block.phis j phi is_typed.phis phi_at) entry_at in
-        usable_operand f (Into (Some e.1.0) b) phi.width e.0
-        (written_width phi.width (each_of (PrintablePhi f) block.phis j phi printed.phis phi_at).width) of_type range (λ n t. entry_defined f defined b block there j k phi e n phi_at entry_at t)
-
     pub entry_becomes : (j k : ℕ) (phi : Phi) (e : Operand × BlockId) → slice_get block.phis j ≡ Some phi → slice_get phi.entries k ≡ Some e → IsEntered f m b e.1.0 →
         Becomes f found (Into (Some e.1.0) b) (Ty.Int phi.width) e.0 (m.put (Into (Some e.1.0) b) e.0)
     entry_becomes j k phi e phi_at entry_at entered =
@@ -128,7 +130,7 @@ module _ (f : Function) (printable : IsPrintable f) (typed : Typed f) (defined :
     entry_sound : (j k : ℕ) (phi : Phi) (e : Operand × BlockId) → slice_get block.phis j ≡ Some phi → slice_get phi.entries k ≡ Some e → m.met b 0 ≡ true →
         m.keeps phi.result.0 ≡ true → EntryIsSound f m b phi.width e
     entry_sound j k phi e phi_at entry_at met kept entered =
-        let usable = entry_usable j k phi e phi_at entry_at in
+        let usable = entry_usable f printable typed defined b block there j k phi e phi_at entry_at in
         let becomes = entry_becomes j k phi e phi_at entry_at entered in
         let put = m.put (Into (Some e.1.0) b) e.0 in
         let name_kept : (n : ℕ) → is_in n (operand_names put) ≡ true → m.keeps n ≡ true =

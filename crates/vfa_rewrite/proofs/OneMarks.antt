@@ -57,7 +57,7 @@ same_bool false true h k = k refl
 same_bool false false h k = refl
 
 -- the names that an operation, no call, uses hang on no function
-same_names : (g g' : Function) (op : Op) → is_call op ≡ false → op_names g op ≡ op_names g' op
+pub same_names : (g g' : Function) (op : Op) → is_call op ≡ false → op_names g op ≡ op_names g' op
 same_names g g' (Op.Bin bin flags w a b) plain = refl
 same_names g g' (Op.Icmp pred samesign w a b) plain = refl
 same_names g g' (Op.Select w c a b) plain = refl

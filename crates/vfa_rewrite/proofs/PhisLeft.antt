@@ -20,15 +20,14 @@ use Rattle.vfa_mean.specs.Moments.{Into}
 use Rattle.vfa_mean.specs.Numbering.{kept_numbers, KeptPhiFits}
 use Rattle.vfa_mean.specs.Outcomes.{first_block}
 use Rattle.vfa_mean.proofs.KeptParts.{number_kept}
-use Rattle.vfa_walk.proofs.TruthTypes.{written_width, each_of}
+use Rattle.vfa_walk.proofs.TruthTypes.{each_of}
 use Rattle.vfa_rewrite.specs.Findings.{Findings, IsUsable}
 use Rattle.vfa_rewrite.specs.Marks.{EntryIsMarked}
 use Rattle.vfa_rewrite.specs.Rewritten.{Marks, edge_to, edges_of, one_fewer, if_counted, entries_left, phi_left, rewritten}
 use Rattle.vfa_rewrite.proofs.BlocksLeft.{from_get}
 use Rattle.vfa_rewrite.proofs.EdgesLeft.{edge_left, edges_count, no_more_edges, edge_is_counted, walk_to}
 use Rattle.vfa_rewrite.proofs.LeftLines.{Known}
-use Rattle.vfa_rewrite.proofs.MarkedBlocks.{entry_defined, at_all}
-use Rattle.vfa_rewrite.proofs.MarkedLines.{usable_operand}
+use Rattle.vfa_rewrite.proofs.MarkedBlocks.{entry_usable, at_all}
 use Rattle.vfa_rewrite.proofs.PutOperands.{becomes_usable, operand_left_typed, operand_left_range}
 use Rattle.vfa_rewrite.proofs.TargetsLeft.{tally, count_is, blocks_count}
 
@@ -52,7 +51,7 @@ get_index (x ∷ xs) (suc i) d l = get_index xs i d (omega (arith, l))
 abbrev pub HasOneOperand : List Entry → Type 0
 HasOneOperand es = (i j : ℕ) (d e : Entry) → slice_get es i ≡ Some d → slice_get es j ≡ Some e → d.1 ≡ e.1 → d.0 ≡ e.0
 
-one_of_pairs : (es : List (Operand × BlockId)) → AllPairs (λ (d e : Operand × BlockId). d.1 ≡ e.1 → d.0 ≡ e.0) es → HasOneOperand es
+pub one_of_pairs : (es : List (Operand × BlockId)) → AllPairs (λ (d e : Operand × BlockId). d.1 ≡ e.1 → d.0 ≡ e.0) es → HasOneOperand es
 one_of_pairs es pairs i j d e at_i at_j same = elim (cases_lt i j) [
   | inl l ↦ ordered i j d e at_i at_j l same
   | inr l ↦ elim (cases_lt j i) [
@@ -76,7 +75,7 @@ pairs_of_one : (es : List (Operand × BlockId)) → HasOneOperand es → AllPair
 pairs_of_one es one i j d before inside same =
     one i j (slice_index_or es i d) (slice_index_or es j d) (get_index es i d (omega (arith, before, inside))) (get_index es j d inside) same
 
-fewer_elsewhere : (count : ℕ → ℕ) (p q : ℕ) → nat_eq q p ≡ false → one_fewer count p q ≡ count q
+pub fewer_elsewhere : (count : ℕ → ℕ) (p q : ℕ) → nat_eq q p ≡ false → one_fewer count p q ≡ count q
 fewer_elsewhere count p q e = ap (λ t. if t then count q - 1 else count q) e
 
 fewer_here : (count : ℕ → ℕ) (p : ℕ) → one_fewer count p p ≡ count p - 1
@@ -161,10 +160,7 @@ module _ (f : Function) (found : Findings) (m : Marks) (known : Known f found m)
     pub entry_left_usable : (k : ℕ) (e : Operand × BlockId) → slice_get phi.entries k ≡ Some e → (edges_of f m b e.1.0 ≡ 0 → ⊥) →
         IsUsable f (Into (Some e.1.0) b) (Ty.Int phi.width) (m.put (Into (Some e.1.0) b) e.0)
     entry_left_usable k e at entered =
-        let range = (each_of (λ (e : Operand × BlockId). IsOperand f phi.width e.0 × IsBlock f e.1) phi.entries k e old_phi.entries at).0 in
-        let of_type = each_of (λ (e : Operand × BlockId). IsOfType f (Ty.Int phi.width) e.0) phi.entries k e (each_of (TypedPhi f) block.phis j phi typed_block.phis stands) at in
-        let usable = usable_operand f (Into (Some e.1.0) b) phi.width e.0 (written_width phi.width old_phi.width) of_type range
-        (λ n t. entry_defined f known.defined b block there j k phi e n stands at t) in
+        let usable = entry_usable f known.printable known.typed known.defined b block there j k phi e stands at in
         let marked = (at_all (EntryIsMarked f found m b phi.width) phi.entries k e
         (at_all (λ (phi : Phi). AllByRecursion (EntryIsMarked f found m b phi.width) phi.entries) block.phis j phi (known.marks.blocks b block there reached).phis stands) at).put entered in
         becomes_usable f known.printable known.defined found known.fits (Into (Some e.1.0) b) (Ty.Int phi.width) e.0 (m.put (Into (Some e.1.0) b) e.0) marked usable

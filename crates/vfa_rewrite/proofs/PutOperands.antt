@@ -37,7 +37,7 @@ module _ (f : Function) (printable : IsPrintable f) (defined : Defined f) (found
     | inl call ↦ absurd (let kept = fits.call r.b r.block r.i r.inst r.line call in let uses = r.uses in cc)
   ]
 
-  replaced_fits : (n : ℕ) (u : Operand) (r : IsReplaced f found n u) → ChangeFits f (At r.b r.i) r.inst.op (Change.Uses u)
+  pub replaced_fits : (n : ℕ) (u : Operand) (r : IsReplaced f found n u) → ChangeFits f (At r.b r.i) r.inst.op (Change.Uses u)
   replaced_fits n u r =
       subst (λ c. ChangeFits f (At r.b r.i) r.inst.op c) r.uses (fits.change r.b r.block r.i r.inst r.line r.met (replaced_plain n u r))
 

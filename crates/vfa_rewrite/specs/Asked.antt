@@ -15,4 +15,5 @@ asked_of f op = record {
   b = second_known (overflow_call f op) op;
   third = third_type op;
   c = operand_c op;
+  call = overflow_call f op;
 }

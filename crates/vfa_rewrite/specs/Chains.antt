@@ -25,7 +25,7 @@ other_by Change.Gone = None
 abbrev pub other_in : Findings → ℕ → ℕ → ℕ → Inst → Option Operand
 other_in found n b i inst = if is_result n inst.result && found.met b i then other_by (found.change b i inst) else None
 
-abbrev pub itself : Option Operand → Option Operand
+abbrev pub itself : {A : Type 0} → Option A → Option A
 itself o = o
 
 -- by an instruction of block b

@@ -1,13 +1,13 @@
 //! The operands whose facts the rules ask for.
 
-ghost use Rattle.std.specs.Prelude.{◌≡◌};
+ghost use Rattle.std.specs.Prelude.{◌≡◌, None};
 ghost use Rattle.vfa_ir.specs.declared.operations.Ty.TheVariants.{Int, Pair};
 ghost use Rattle.vfa_ir.specs.declared.operations.Op.TheVariants.{Part};
 ghost use Rattle.vfa_ir.specs.declared.operations.Operand.TheVariants.{Poison, Value};
 ghost use Rattle.vfa_rewrite.specs.Asked.{asked_of};
 
 use vfa_ir::{Function, Op, Operand, Ty, ValueId};
-use vfa_rules::overflow_call;
+use vfa_rules::{OverflowCall, overflow_call};
 
 /// The operands that the rules on an operation ask for, each with its type.
 #[derive(Clone, Copy)]
@@ -22,11 +22,13 @@ pub(crate) struct Asked {
     pub(crate) third: Ty,
     /// The operand c, a condition or a pair.
     pub(crate) c: Operand,
+    /// The overflow intrinsic that gives the pair, of which the operation is a part.
+    pub(crate) call: Option<OverflowCall>,
 }
 
 /// Two operands of one width.
 fn two(width: u32, a: Operand, b: Operand) -> Asked
-    ensures { result ≡ record { sides = Int width; a = a; b = b; third = Int 1; c = Poison } }
+    ensures { result ≡ record { sides = Int width; a = a; b = b; third = Int 1; c = Poison; call = None } }
 {
     Asked {
         sides: Ty::Int(width),
@@ -34,12 +36,13 @@ fn two(width: u32, a: Operand, b: Operand) -> Asked
         b,
         third: Ty::Int(1),
         c: Operand::Poison,
+        call: None,
     }
 }
 
 /// A condition, and two operands of one width.
 fn three(width: u32, c: Operand, a: Operand, b: Operand) -> Asked
-    ensures { result ≡ record { sides = Int width; a = a; b = b; third = Int 1; c = c } }
+    ensures { result ≡ record { sides = Int width; a = a; b = b; third = Int 1; c = c; call = None } }
 {
     Asked {
         sides: Ty::Int(width),
@@ -47,6 +50,7 @@ fn three(width: u32, c: Operand, a: Operand, b: Operand) -> Asked
         b,
         third: Ty::Int(1),
         c,
+        call: None,
     }
 }
 
@@ -60,8 +64,9 @@ fn part(f: &Function, width: u32, pair: ValueId, index: u32) -> Asked
         b: Operand::Poison,
         third: Ty::Pair(width),
         c: Operand::Value(pair),
+        call: overflow_call(f, &Op::Part { width, pair, index }),
     };
-    if let Some(call) = overflow_call(f, &Op::Part { width, pair, index }) {
+    if let Some(call) = asked.call {
         asked.a = call.a;
         asked.b = call.b;
     }

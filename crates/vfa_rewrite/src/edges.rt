@@ -41,7 +41,7 @@ fn way_of(term: &Term, k: usize) -> Way
 }
 
 /// How many edges a block has.
-fn edge_count(term: &Term) -> usize
+pub(crate) fn edge_count(term: &Term) -> usize
     ensures { result ≡ length (targets term.now) }
 {
     match term {

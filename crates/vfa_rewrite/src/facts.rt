@@ -14,13 +14,15 @@ ghost use Rattle.vfa_walk.specs.Stepping.{fact_of, is_division};
 ghost use Rattle.vfa_xfer.specs.AnyFacts.{fact_type, IsAnyFact};
 ghost use Rattle.vfa_xfer.specs.Transfers.{fact_answers};
 ghost use Rattle.vfa_rules.specs.Facts.{number_cell};
+ghost use Rattle.vfa_rewrite.specs.Uses.{AreUses};
 ghost use Rattle.vfa_rewrite.specs.ByFacts.{change_in, is_signed_division, may_be_undefined_in, may_divide_by_zero, may_overflow, undefined_by};
 
 use crate::asked::operands_asked;
+use crate::uses::is_result_used;
 use vfa_cond::State;
 use vfa_fact::{Cell, Parts};
 use vfa_ir::{Bin, Function, Inst, Op, Operand, Ty, ValueId};
-use vfa_rules::{Change, rule};
+use vfa_rules::{Change, rule_with};
 use vfa_values::Values;
 use vfa_xfer::AnyFact;
 
@@ -70,8 +72,9 @@ pub(crate) fn fact_of(
     }
 }
 
-/// What the rules make of an instruction by the state before it.
-pub(crate) fn change_by(f: &Function, state: &State<AnyFact>, inst: &Inst) -> Change
+/// What the rules make of an instruction by the state before it, where the names that are used are marked.
+pub(crate) fn change_by(f: &Function, used: &[bool], state: &State<AnyFact>, inst: &Inst) -> Change
+    requires used { AreUses f.now used.now }
     requires ready { IsReady f.now }
     requires inst { IsReadyInst f.now inst.now }
     requires facts { AreFacts fact_type IsAnyFact f.now (known state.now) }
@@ -81,7 +84,8 @@ pub(crate) fn change_by(f: &Function, state: &State<AnyFact>, inst: &Inst) -> Ch
     let a = fact_of(f, state, asked.sides, asked.a);
     let b = fact_of(f, state, asked.sides, asked.b);
     let c = fact_of(f, state, asked.third, asked.c);
-    rule(f, inst, &a.parts, &b.parts, &c.parts)
+    let is_used = is_result_used(used, inst);
+    rule_with(&inst.op, asked.call, is_used, &a.parts, &b.parts, &c.parts)
 }
 
 /// The cell of a number; of a pair that of its number.

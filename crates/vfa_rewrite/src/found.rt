@@ -10,11 +10,13 @@ ghost use Rattle.vfa_walk.specs.Ready.{IsReady, IsReadyInst};
 ghost use Rattle.vfa_xfer.specs.AnyFacts.{fact_type, IsAnyFact};
 ghost use Rattle.vfa_rewrite.specs.ByFacts.{findings_of};
 ghost use Rattle.vfa_rewrite.specs.Found.{AreKeptOf, IsKeptOf};
+ghost use Rattle.vfa_rewrite.specs.Uses.{AreUses};
 ghost use Rattle.vfa_rewrite.specs.Walked.{IsWalkedOf, line_by};
 
 use crate::edges::edges_left;
 use crate::facts::{change_by, may_be_undefined};
 use crate::ready::ready;
+use crate::uses::uses;
 use std::alloc::{AllocError, Global};
 use vfa_check::Checked;
 use vfa_cond::State;
@@ -51,14 +53,15 @@ pub(crate) struct Walked {
 }
 
 /// What is found out of an instruction by the state before it.
-fn line_by(f: &Function, state: &State<AnyFact>, inst: &Inst) -> LineFinding
+fn line_by(f: &Function, used: &[bool], state: &State<AnyFact>, inst: &Inst) -> LineFinding
+    requires used { AreUses f.now used.now }
     requires ready { IsReady f.now }
     requires inst { IsReadyInst f.now inst.now }
     requires facts { AreFacts fact_type IsAnyFact f.now (known state.now) }
     ensures { result ≡ line_by f.now (known state.now) inst.now }
 {
     LineFinding {
-        change: change_by(f, state, inst),
+        change: change_by(f, used, state, inst),
         may_be_undefined: may_be_undefined(f, state, &inst.op),
     }
 }
@@ -68,11 +71,13 @@ fn walk(
     alloc: Global,
     checked: &Checked,
     f: &Function,
+    used: &[bool],
     table: &Table<AnyFact>,
     b: BlockId,
     block: &Block,
 ) -> Result<Walked, AllocError>
     requires same { f.now ≡ checked.now }
+    requires used { AreUses f.now used.now }
     requires ready { IsReady f.now }
     requires block { slice_get f.now.blocks b.0 ≡ Some block.now }
     requires states { AreStates fact_type IsAnyFact f.now table.now }
@@ -83,7 +88,7 @@ fn walk(
         return Ok(Walked { lines, end: None });
     };
     'lines: for inst in block.insts.as_slice() {
-        lines.push(line_by(f, cursor.state(), inst))?;
+        lines.push(line_by(f, used, cursor.state(), inst))?;
         let Moved::On = cursor.step(checked) else {
             return Ok(Walked { lines, end: None });
         };
@@ -99,18 +104,20 @@ fn found_in(
     alloc: Global,
     checked: &Checked,
     f: &Function,
+    used: &[bool],
     table: &Table<AnyFact>,
     b: BlockId,
     block: &Block,
 ) -> Result<BlockFindings, AllocError>
     requires same { f.now ≡ checked.now }
+    requires used { AreUses f.now used.now }
     requires ready { IsReady f.now }
     requires block { slice_get f.now.blocks b.0 ≡ Some block.now }
     requires few { length (targets block.now.term) ≤ 2 ^ 28 + 1 }
     requires states { AreStates fact_type IsAnyFact f.now table.now }
     ensures { IfOk result (IsKeptOf f.now (findings_of f.now (kept_entries table.now)) b.0) }
 {
-    let Walked { lines, end } = walk(alloc, checked, f, table, b, block)?;
+    let Walked { lines, end } = walk(alloc, checked, f, used, table, b, block)?;
     let Some(cursor) = end else {
         return Ok(BlockFindings {
             lines,
@@ -131,9 +138,11 @@ fn found_blocks(
     alloc: Global,
     checked: &Checked,
     f: &Function,
+    used: &[bool],
     table: &Table<AnyFact>,
 ) -> Result<Vec<BlockFindings>, AllocError>
     requires same { f.now ≡ checked.now }
+    requires used { AreUses f.now used.now }
     requires ready { IsReady f.now }
     requires few { HasFewBlocks f.now }
     requires states { AreStates fact_type IsAnyFact f.now table.now }
@@ -142,7 +151,7 @@ fn found_blocks(
     let mut kept: Vec<BlockFindings> = Vec::new(alloc);
     let mut b: u32 = 0;
     'all: for block in f.blocks.as_slice() {
-        kept.push(found_in(alloc, checked, f, table, BlockId(b), block)?)?;
+        kept.push(found_in(alloc, checked, f, used, table, BlockId(b), block)?)?;
         b += 1;
     }
     Ok(kept)
@@ -157,5 +166,7 @@ pub(crate) fn find_out(
     requires { AreStates fact_type IsAnyFact checked.now table.now }
     ensures { IfOk result (λ kept. AreKeptOf checked.now (findings_of checked.now (kept_entries table.now)) kept.items) }
 {
-    found_blocks(alloc, checked, ready(checked), table)
+    let f = ready(checked);
+    let used = uses(alloc, f)?;
+    found_blocks(alloc, checked, f, used.as_slice(), table)
 }

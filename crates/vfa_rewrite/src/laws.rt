@@ -20,6 +20,7 @@ ghost use Rattle.vfa_rewrite.specs.ByFacts.{FactTable, findings_of};
 ghost use Rattle.vfa_rewrite.specs.Chains.{IsWalkedTo, becoming};
 ghost use Rattle.vfa_rewrite.specs.Findings.{AreFitting, AreTrue, Findings, IsUsable};
 ghost use Rattle.vfa_rewrite.specs.Marks.{AreMarks, Becomes, Reached};
+ghost use Rattle.vfa_rewrite.specs.PrintedNumbers.{PrintsNumbers};
 ghost use Rattle.vfa_rewrite.specs.Rewriting.{IsRewritten};
 ghost use Rattle.vfa_rewrite.specs.Rewritten.{Marks, rewritten};
 ghost use Rattle.vfa_rewrite.specs.Sizes.{IsLittleLarger};
@@ -125,4 +126,14 @@ pub fn rewritten_is_checked()
     fit_is_printable();
     findings_fit();
     fitting_marks_leave_checked();
+}
+
+/// Each operand of the function that the table knows to be one number is that number in the function that is rewritten by it, where
+/// its line is left, whether or not the table is true.
+pub fn numbers_are_printed()
+    ensures { (f g : Function) (t : FactTable) → IsChecked f → HasTypedFacts fact_type IsAnyFact f t →
+        IsRewritten f t g → PrintsNumbers f t g }
+{
+    fit_is_printable();
+    findings_fit();
 }

@@ -15,17 +15,17 @@ use std::alloc::{AllocError, Global};
 use vfa_ir::{Function, Inst, Operand, ValueId};
 use vfa_rules::Change;
 
-/// Notes the operand that takes the place of a name, if none did before.
-fn note(others: &mut Vec<Option<Operand>>, name: ValueId, other: Operand)
-    requires { name.0 < length others.old.items }
-    ensures count { length others.new.items ≡ length others.old.items }
-    ensures others { (n : ℕ) → slice_index_or others.new.items n None ≡
-        option_or (slice_index_or others.old.items n None) (if nat_eq name.0 n then Some other else None) }
+/// Notes what is found of a name, if nothing was noted of it before.
+pub(crate) fn note<T: Copy>(noted: &mut Vec<Option<T>>, name: ValueId, found: T)
+    requires { name.0 < length noted.old.items }
+    ensures count { length noted.new.items ≡ length noted.old.items }
+    ensures noted { (n : ℕ) → slice_index_or noted.new.items n None ≡
+        option_or (slice_index_or noted.old.items n None) (if nat_eq name.0 n then Some found else None) }
 {
-    if others[name.0 as usize].is_some() {
+    if noted[name.0 as usize].is_some() {
         return;
     }
-    others[name.0 as usize] = Some(other);
+    noted[name.0 as usize] = Some(found);
 }
 
 /// Notes the operand that takes the place of an instruction's result, where one does.
@@ -47,7 +47,7 @@ fn note_line(others: &mut Vec<Option<Operand>>, name: Option<ValueId>, line: Opt
 }
 
 /// What was found out of the instruction of this number.
-fn line_at(lines: &[LineFinding], i: usize) -> Option<LineFinding>
+pub(crate) fn line_at(lines: &[LineFinding], i: usize) -> Option<LineFinding>
     ensures { result ≡ slice_get lines.now i }
 {
     lines.get(i).copied()

@@ -18,7 +18,7 @@ line_by-requires-clause-inst c =
 
 pub line_by-requires-clause-facts : goal.line_by-requires-clause-facts
 line_by-requires-clause-facts c =
-    subst (λ (s : Stored AnyFact). AreFacts fact_type IsAnyFact c.args.f.now (known s)) (sym c.state.ensures) c.lines.invariant.has.kept.facts
+    subst (λ (s : Stored AnyFact). AreFacts fact_type IsAnyFact c.args.f.now (known s)) (sym c.state.ensures) c.lines.invariant.standing.has.kept.facts
 
 pub returns-in_default-step : goal.returns-in_default-step
 returns-in_default-step c =
