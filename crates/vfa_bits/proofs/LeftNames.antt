@@ -34,7 +34,7 @@ use Rattle.vfa_bits.proofs.Places.{get_map, block_at}
 
 -- ---- names are values of the function
 
-operand_below : (g : Function) (w u : ℕ) (a : Operand) → IsOperand g w a → is_in u (operand_names a) ≡ true → u < length g.values
+pub operand_below : (g : Function) (w u : ℕ) (a : Operand) → IsOperand g w a → is_in u (operand_names a) ≡ true → u < length g.values
 operand_below g w u (Operand.Value v) range t = elim (first_or_rest u v.0 [] t) [ inl e ↦ subst (λ n. n < length g.values) (sym e) range | inr n ↦ absurd (cc) ]
 operand_below g w u (Operand.Literal c) range t = absurd (cc)
 operand_below g w u Operand.Poison range t = absurd (cc)
@@ -58,7 +58,7 @@ op_below g (Op.Part w pair index) u plain r t = elim (first_or_rest u pair.0 [] 
 op_below g (Op.Assume c) u plain r t = operand_below g 1 u c r t
 op_below g (Op.Call width place) u plain r t = absurd (cc)
 
-term_below : (g : Function) (term : Term) (u : ℕ) → PrintableTerm g term → is_in u (term_names term) ≡ true → u < length g.values
+pub term_below : (g : Function) (term : Term) (u : ℕ) → PrintableTerm g term → is_in u (term_names term) ≡ true → u < length g.values
 term_below g (Term.Ret w a) u r t = operand_below g w u a r.1 t
 term_below g (Term.Br to) u r t = absurd (cc)
 term_below g (Term.CondBr c taken fallen) u r t = operand_below g 1 u c r.0 t
@@ -88,6 +88,19 @@ names_left used r (Op.Over over w a b) = refl
 names_left used r (Op.Part w pair index) = refl
 names_left used r (Op.Assume c) = refl
 names_left used r (Op.Call width place) = refl
+
+-- the names that a line uses which is written anew are values
+pub line_names_below : (f : Function) (masks : ℕ → ℕ) (by : Choices) (used : ℕ → Bool) → Known f masks by.changed → (b : ℕ) (block : Block) (i : ℕ) (inst : Inst) (u : ℕ) → IsLine f b block i inst →
+    is_in u (op_names (left used (rewritten f masks by)) (new_operation f masks by b inst)) ≡ true → u < length f.values
+line_names_below f masks by used known b block i inst u line name = here (is_call (new_operation f masks by b inst)) refl
+  where
+    here : (s : Bool) → is_call (new_operation f masks by b inst) ≡ s → u < length f.values
+    here false plain = op_below (left used (rewritten f masks by)) (new_operation f masks by b inst) u plain (line_left_printable f masks by used known b block i inst line) name
+    here true e =
+        let c = call_of (new_operation f masks by b inst) e in
+        let old = old_call f masks by b inst c.width c.place c.is in
+        call_below (left used (rewritten f masks by)) _ u (called_left f masks by used known b block i inst old.0 c.place line old.1)
+        (subst (λ o. is_in u (op_names (left used (rewritten f masks by)) o) ≡ true) c.is name)
 
 module _ (f : Function) (masks : ℕ → ℕ) (by : Choices) (used : ℕ → Bool) (known : Known f masks by.changed) (are_reached : AreReached f by.reached) (are_used : AreUsed (rewritten f masks by) (must_stay (rewritten f masks by)) used) where
   -- ---- a used name that the function defines is left
@@ -179,19 +192,8 @@ module _ (f : Function) (masks : ℕ → ℕ) (by : Choices) (used : ℕ → Boo
         subst (λ (i : Inst). is_in u (op_names (left used (rewritten f masks by)) i.op) ≡ true) (sym l.is) k.inside in (
           used_names f masks by used known are_reached are_used b block l.place l.from line l.kept u
               (subst (λ xs. is_in u xs ≡ true) (names_left used (rewritten f masks by) (new_operation f masks by b l.from)) name),
-          below l.place l.from line name,
+          line_names_below f masks by used known b block l.place l.from u line name,
         )
-      where
-        below : (i : ℕ) (inst : Inst) → IsLine f b block i inst → is_in u (op_names (left used (rewritten f masks by)) (new_operation f masks by b inst)) ≡ true → u < length f.values
-        below i inst line name = here (is_call (new_operation f masks by b inst)) refl
-          where
-            here : (s : Bool) → is_call (new_operation f masks by b inst) ≡ s → u < length f.values
-            here false plain = op_below (left used (rewritten f masks by)) (new_operation f masks by b inst) u plain (line_left_printable f masks by used known b block i inst line) name
-            here true e =
-                let c = call_of (new_operation f masks by b inst) e in
-                let old = old_call f masks by b inst c.width c.place c.is in
-                call_below (left used (rewritten f masks by)) _ u (called_left f masks by used known b block i inst old.0 c.place line old.1)
-                (subst (λ o. is_in u (op_names (left used (rewritten f masks by)) o) ≡ true) c.is name)
 
     pub term_names_used : is_in u (term_names (with_operand (put_for f masks (by.reached b)) block.term)) ≡ true → (used u ≡ true) × (u < length f.values)
     term_names_used t = (

@@ -1,5 +1,9 @@
 pub mod Changed
+pub mod Choosing
 pub mod Narrowed
+pub mod Noting
 pub mod Sizes
 pub mod Standing
 pub mod Tables
+pub mod Users
+pub mod Written

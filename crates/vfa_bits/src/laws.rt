@@ -1,6 +1,6 @@
 //! Laws of narrowed functions.
 
-ghost use Rattle.std.specs.Prelude.{ℕ};
+ghost use Rattle.std.specs.Prelude.{◌≡◌, ℕ};
 ghost use Rattle.vfa_bits.specs.Narrowed.{IsNarrowed};
 ghost use Rattle.vfa_bits.specs.Sizes.{IsNoLarger};
 ghost use Rattle.vfa_check.specs.Checked.{IsChecked};
@@ -23,6 +23,13 @@ pub fn narrowing_refines()
 {
     fit_is_printable();
 }
+
+/// A function is narrowed by the bits that are asked for to one function at most: its masks are the only ones, and they decide
+/// on all that is written anew.
+pub fn one_narrowed()
+    ensures { (f : Function) (masks others : ℕ → ℕ) (g g' : Function) → AreMasks f masks → AreMasks f others →
+        IsNarrowed f masks g → IsNarrowed f others g' → g ≡ g' }
+{}
 
 /// A narrowed function is such as the check accepts: some text reads as it, its values, blocks and calls are numbered in
 /// text order, operands are of the types that are written, phis fit the edges, and names are defined before they are used.

@@ -17,7 +17,7 @@ fn is_below(mask: u128, place: u32) -> bool
 }
 
 /// Whether a mask, which asks for bits of the result, asks for no copy of the sign of a `sext`.
-fn has_unseen_sign(op: &Op, mask: u128) -> bool
+pub(crate) fn has_unseen_sign(op: &Op, mask: u128) -> bool
     ensures { result ≡ changed.has_unseen_sign op.now mask }
 {
     match *op {

@@ -50,7 +50,7 @@ pub fn same_bits_operand(op: &Op, mask: u128) -> Option<Operand>
 }
 
 /// The mask of a value; 0 where there is none.
-fn mask_of(masks: &[u128], value: ValueId) -> u128
+pub(crate) fn mask_of(masks: &[u128], value: ValueId) -> u128
     ensures { result ≡ mask_in masks.now value.0 }
 {
     masks.get(value.0 as usize).copied().unwrap_or(0)

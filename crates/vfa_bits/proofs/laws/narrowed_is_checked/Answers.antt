@@ -1,13 +1,11 @@
-use Rattle.std.proofs.Common.{◌∙◌, ◌<◌, ◌+◌, ◌^◌, length, nat_eq, sym, subst, arith}
-use Rattle.std.specs.List.{IsDistinct}
+use Rattle.std.proofs.Common.{◌<◌, ◌+◌, ◌^◌, length, sym, subst, arith}
 use Rattle.vfa_check.specs.Checked.{IsChecked}
-use Rattle.vfa_mean.specs.Numbering.{DefinesKeptOnce, each_number, numbered}
-use Rattle.vfa_mean.proofs.FreshOperands.Definitions.{range_distinct}
-use Rattle.vfa_ir.specs.Printable.{ids_of}
+use Rattle.vfa_mean.specs.Numbering.{each_number, numbered}
 use Rattle.vfa_bits.specs.Narrowed.{left, rewritten}
 use Rattle.vfa_bits.specs.Sizes.{IsNoLarger}
+use Rattle.vfa_bits.proofs.ByParts.{kept_once}
 use Rattle.vfa_bits.proofs.Chains.{Known}
-use Rattle.vfa_bits.proofs.Kept.{may_be_numbered, all_values, all_calls, same_calls, results_left, sublist_distinct}
+use Rattle.vfa_bits.proofs.Kept.{may_be_numbered}
 use Rattle.vfa_bits.proofs.LeftBlocks.{kept_typed, kept_printable, kept_phis_fit}
 use Rattle.vfa_bits.proofs.LeftDefined.{left_defined}
 use Rattle.vfa_bits.proofs.LeftNames.{has_its_names}
@@ -24,10 +22,7 @@ returns-clause-checked c f g masks checked are n =
     record { printable = printable; typed = checked.formed.typed; once = checked.once; defined = checked.formed.defined; are = are; are_changed = n.are_changed } in
     let whole = left n.used (rewritten f masks n.by) in
     let may = may_be_numbered f masks n.by n.used checked.within printable.call_places in
-    let once : DefinesKeptOnce whole each_number = record {
-      names = subst (IsDistinct nat_eq) (sym (all_values whole)) (sublist_distinct (ids_of whole) (ids_of f) (results_left f masks n.by n.used) checked.once);
-      calls = subst (IsDistinct nat_eq) (sym (all_calls whole ∙ same_calls f masks n.by n.used ∙ printable.call_places)) (range_distinct 0 (length f.calls));
-    } in
+    let once = kept_once f masks n.by n.used printable checked.once in
     let names = has_its_names f masks n.by n.used known n.are_reached n.are_used in
     let fit = kept_phis_fit f masks n.by n.used known checked.formed.phis checked.within.entry in
     let made = c.numbered_is_printable.ensures whole each_number may once names fit (kept_printable f masks n.by n.used known) in

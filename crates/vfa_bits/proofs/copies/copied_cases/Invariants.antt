@@ -1,0 +1,5 @@
+use Rattle.std.proofs.Common.{◌≡◌, take}
+use Rattle.vfa_bits.proofs.copies.copied_cases.Given as goal
+
+abbrev pub invariant-each : goal.invariant-each
+invariant-each l = l.copy.items ≡ take l.case-index l.cases
