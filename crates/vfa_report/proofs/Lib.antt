@@ -3,6 +3,8 @@ pub mod BestRows
 pub mod FirstUses
 pub mod LineTexts
 pub mod NameLines
+pub mod NarrowingReads
+pub mod ReportReads
 pub mod ReportTexts
 pub mod ReportTrue
 pub mod ShownFacts

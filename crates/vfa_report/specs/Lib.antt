@@ -1,6 +1,7 @@
 pub mod BestBits
 pub mod FactLines
 pub mod Met
+pub mod Reads
 pub mod Report
 pub mod ReportTruth
 pub mod Showing

@@ -12,6 +12,7 @@ ghost use Rattle.vfa_xfer.specs.AnyFacts.{fact_type, IsAnyFact};
 ghost use Rattle.vfa_xfer.specs.Transfers.{fact_answers};
 ghost use Rattle.vfa_xfer.specs.declared.any_fact.AnyFact.{AnyFact};
 ghost use Rattle.vfa_report.specs.FactLines.{local_text};
+ghost use Rattle.vfa_report.specs.Reads.{AgreeWhereReported};
 ghost use Rattle.vfa_report.specs.Report.{IsReport, ReportLine, block_lines, inst_lines, line_text, lines_from, parameter_lines, phi_lines, report_text, used_lines};
 
 use crate::naming::{push_names, push_parameters, push_phis, push_result};
@@ -191,7 +192,8 @@ fn push_blocks(
 /// line, with `never-reached` behind the name where the table has no state of its entry and then nothing more; an `in` line
 /// for each name that it uses and does not define, in order of first use; and a `def` line for each result, phis first. Where
 /// no run goes on behind an instruction, `never-past-here` stands in place of its line and of the rest. Fact lines are those of
-/// `fact_line`. By the table of the function each line holds of its runs.
+/// `fact_line`. By the table of the function each line holds of its runs. A table may stand in its place that has states for the
+/// same blocks and says the same of the names that a report reads (`reports_are_one_by_read_names`).
 ///
 /// The report on `define i8 @f(i8 %x) { ret i8 %x }` has the four lines `function @f`, `  param %x i8 ???????? full maybe-poison`,
 /// `  block %0` and `    in %x i8 ???????? full maybe-poison`.
@@ -200,6 +202,8 @@ pub fn report(alloc: Global, f: &Checked, table: &Table<AnyFact>) -> Result<Vec<
     requires states { AreStates fact_type IsAnyFact f.now table.now }
     ensures text { IfOk result (λ t. t.items ≡ report_text f.now (kept_entries table.now)) }
     ensures report { IsTableOf fact_answers f.now (kept_entries table.now) → IfOk result (λ t. IsReport f.now t.items) }
+    ensures by_read_names { (t : States AnyFact) → IsTableOf fact_answers f.now t → AgreeWhereReported f.now t (kept_entries table.now) →
+        IfOk result (λ text. IsReport f.now text.items) }
 {
     fit_is_printable();
     let function = f.function();

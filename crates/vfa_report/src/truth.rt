@@ -4,8 +4,11 @@ ghost use Rattle.std.specs.Prelude.{◌≡◌, ℕ, List};
 ghost use Rattle.vfa_ir.specs.declared.functions.Function.{Function};
 ghost use Rattle.vfa_ir.specs.Printable.{IsPrintable};
 ghost use Rattle.vfa_check.specs.Checked.{IsChecked};
+ghost use Rattle.vfa_walk.specs.Tables.{States};
+ghost use Rattle.vfa_xfer.specs.declared.any_fact.AnyFact.{AnyFact};
 ghost use Rattle.vfa_report.specs.BestBits.{ReportIsBest};
-ghost use Rattle.vfa_report.specs.Report.{IsReport};
+ghost use Rattle.vfa_report.specs.Reads.{AgreeWhereReported};
+ghost use Rattle.vfa_report.specs.Report.{IsReport, report_text};
 ghost use Rattle.vfa_report.specs.ReportTruth.{ReportHolds};
 
 /// Each line of the report on a checked function holds of its runs: what is shown of a name holds of the value that it has
@@ -27,4 +30,11 @@ pub fn bits_are_best()
 /// A function has at most one report.
 pub fn one_report()
     ensures { (f : Function) (s t : List ℕ) → IsReport f s → IsReport f t → s ≡ t }
+{}
+
+/// A report depends on the names that it reads alone: by two tables that have states for the same blocks, and say the same of these
+/// names at each block, it is one text. At a block they are the names that its instructions and its terminator use and what
+/// narrowing follows from these, the results of its phis, and in the first block the parameters.
+pub fn reports_are_one_by_read_names()
+    ensures { (f : Function) (t u : States AnyFact) → AgreeWhereReported f t u → report_text f t ≡ report_text f u }
 {}

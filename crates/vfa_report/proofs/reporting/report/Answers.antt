@@ -3,6 +3,7 @@ use Rattle.vfa_ir.specs.declared.functions.Function.{Function}
 use Rattle.vfa_walk.specs.Kept.{AreStates, kept_entries}
 use Rattle.vfa_xfer.specs.AnyFacts.{fact_type, IsAnyFact}
 use Rattle.vfa_report.specs.Report.{ReportLine, line_text, lines_from, parameter_lines}
+use Rattle.vfa_report.proofs.ReportReads.{report_same}
 use Rattle.vfa_report.proofs.ReportTexts.{whole_report}
 use Rattle.vfa_report.proofs.reporting.report.Goals as goal
 
@@ -24,3 +25,7 @@ returns-clause-text c =
 
 pub returns-clause-report : goal.returns-clause-report
 returns-clause-report c table = record { table = kept_entries c.args.table.now; is_table = table; is = returns-clause-text c }
+
+pub returns-clause-by_read_names : goal.returns-clause-by_read_names
+returns-clause-by_read_names c t is_table agree =
+    record { table = t; is_table = is_table; is = returns-clause-text c ∙ sym (report_same c.args.f.now t (kept_entries c.args.table.now) agree) }
