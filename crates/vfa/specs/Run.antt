@@ -27,8 +27,8 @@ Reports err message = Got err message ⊎ (SinkFailed err × GotPrefix err.befor
 -- ---- answers
 
 -- The command's text of the input's module and the notes on it. What `opt` writes for an accepted function reads as a
--- function which refines it. What `facts` writes for one is the report by its table, each line of which holds whenever a run of
--- the function comes to the line's place.
+-- function which refines it, and prints each of its operands that its table knows to be one number as that number. What `facts`
+-- writes for one is the report by its table, each line of which holds whenever a run of the function comes to the line's place.
 pub record IsAnswer (command : Command) (input text notes : List ℕ) : Type 0 where
   pub within : length input ≤ most
   pub is : IsModuleText command.job command.strict input text notes

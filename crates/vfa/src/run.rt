@@ -191,7 +191,7 @@ fn run_command<R: AllocGlobal + Threads + Sync, S: Source, O: Sink, E: Sink, G: 
 /// Runs a command: reads the words, then all of the source, and writes the answer to out and the notes, or a message, to
 /// err.
 ///
-/// `opt` reads a module (`docs/LANGUAGE.md`) and writes it with the constants of its functions folded. `facts` writes a report on
+/// `opt` reads a module (`docs/LANGUAGE.md`) and writes it with its functions optimised (`docs/REWRITING.md`). `facts` writes a report on
 /// each of its functions in place of it: what is known of each name, where it is defined and where it is used. The work on
 /// functions is done by as many workers as the command asks for, each piece of it after the gate; what is written is the same for every
 /// number of them.
@@ -204,7 +204,8 @@ pub fn vfa_run<R: AllocGlobal + Threads + Sync, S: Source, O: Sink, E: Sink, G: 
     gate: &G,
 ) -> Status
     // Done: out has the command's text of the input's module, and err has the notes. Each function that `opt` prints reads as
-    // one that refines the function that was read; each report of `facts` is the one by the function's table, and each of its
+    // one that refines the function that was read, and each operand of this one that its table knows to be one number is printed as
+    // that number, wherever its line is still printed; each report of `facts` is the one by the function's table, and each of its
     // lines holds whenever a run comes to its place. The input was read to its end.
     ensures done { (command : Command) (input : List ℕ) → Asks (texts words.now) (S.state source.old) command input →
         result ≡ Status.Done → IsDone command input (change O.state out.old out.new) (change E.state err.old err.new) }

@@ -4,6 +4,7 @@ mod carried;
 mod checked;
 mod faults;
 mod limits;
+mod optimised;
 mod printed;
 mod refused;
 mod reports;

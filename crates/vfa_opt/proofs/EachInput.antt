@@ -11,8 +11,11 @@ use Rattle.vfa_opt.specs.declared.jobs.Job.{Job}
 use Rattle.vfa_opt.specs.declared.refusals.Refused.{Refused}
 use Rattle.vfa_opt.specs.declared.work.Carried.{Carried}
 use Rattle.vfa_opt.specs.Acceptance.{IsInside, IsOutside, in_module}
+use Rattle.vfa_check.specs.Checked.{IsChecked}
+use Rattle.vfa_print.specs.Trees.{function_text}
 use Rattle.vfa_report.specs.Report.{IsReport}
-use Rattle.vfa_opt.specs.Module.{Piece, copied, accepted, carried, IsDefinePiece, IsPiece, ArePieces, IsPrinted, IsFunctionText, IsPieceText, AreTexts, notes_of, function_names, carried_functions, Splits, IsModule, IsModuleText}
+use Rattle.vfa_opt.specs.Optimised.{IsOptimised}
+use Rattle.vfa_opt.specs.Module.{Piece, copied, accepted, carried, IsDefinePiece, IsPiece, ArePieces, IsFunctionText, IsPieceText, AreTexts, notes_of, function_names, carried_functions, Splits, IsModule, IsModuleText}
 use Rattle.vfa_opt.specs.Refusals.{IsRefusal}
 
 -- ---- a split never answers that memory ran out
@@ -198,33 +201,40 @@ OneList = (input : List ℕ) (ps qs : List Piece) → Splits input ps → Splits
 abbrev OneReport : Type 0
 OneReport = (f : Function) (s t : List ℕ) → IsReport f s → IsReport f t → s ≡ t
 
-module _ (one : OneList) (report : OneReport) where
-  one_printed : (f : Function) (s t : List ℕ) → IsPrinted f s → IsPrinted f t → s ≡ t
-  one_printed f s t (inl p) (inl q) = p.1 ∙ sym q.1
-  one_printed f s t (inl p) (inr q) = absurd (q.0 p.0)
-  one_printed f s t (inr p) (inl q) = absurd (p.0 q.0)
-  one_printed f s t (inr p) (inr q) = p.1 ∙ sym q.1
+abbrev OneOptimised : Type 0
+OneOptimised = (f g g' : Function) → IsChecked f → IsOptimised f g → IsOptimised f g' → g ≡ g'
 
-  one_function_text : (job : Job) (f : Function) (s t : List ℕ) → IsFunctionText job f s → IsFunctionText job f t → s ≡ t
-  one_function_text Job.Opt f s t p q = one_printed f s t p q
-  one_function_text Job.Facts f s t p q = report f s t p q
+abbrev WasChecked : Type 0
+WasChecked = (text : List ℕ) (f : Function) → IsInside text f → IsChecked f
 
-  one_piece_text : (job : Job) (piece : Piece) (s t : List ℕ) → IsPieceText job piece s → IsPieceText job piece t → s ≡ t
-  one_piece_text job (copied bytes) s t p q = p ∙ sym q
-  one_piece_text job (accepted f) s t p q = one_function_text job f s t p q
-  one_piece_text job (carried bytes e) s t p q = p ∙ sym q
+module _ (one : OneList) (report : OneReport) (optimised : OneOptimised) (checked : WasChecked) where
+  one_function_text : (job : Job) (f : Function) → IsChecked f → (s t : List ℕ) → IsFunctionText job f s → IsFunctionText job f t → s ≡ t
+  one_function_text Job.Opt f was s t p q = p.is ∙ (ap function_text (optimised f p.function q.function was p.is_optimised q.is_optimised) ∙ sym q.is)
+  one_function_text Job.Facts f was s t p q = report f s t p q
 
-  one_text_of : (job : Job) (pieces : List Piece) (s t : List ℕ) → AreTexts job pieces s → AreTexts job pieces t → s ≡ t
-  one_text_of job [] s t p q = p ∙ sym q
-  one_text_of job (piece ∷ pieces) s t p q =
-      p.4 ∙ ap (λ x. x ++ p.1) (one_piece_text job piece p.0 q.0 p.2 q.2)
-      ∙ ap (λ x. q.0 ++ x) (one_text_of job pieces p.1 q.1 p.3 q.3) ∙ sym q.4
+  was_checked : (input : List ℕ) (item : Item) (f : Function) → IsPiece input item (accepted f) → IsChecked f
+  was_checked input (Item.Lines start end) f is = absurd (let other : accepted f ≡ copied (slice_range input start end) = is in cc)
+  was_checked input (Item.Define start end line) f is = checked (slice_range input start end) f is
+
+  one_piece_text : (job : Job) (input : List ℕ) (item : Item) (piece : Piece) → IsPiece input item piece → (s t : List ℕ) → IsPieceText job piece s → IsPieceText job piece t → s ≡ t
+  one_piece_text job input item (copied bytes) is s t p q = p ∙ sym q
+  one_piece_text job input item (accepted f) is s t p q = one_function_text job f (was_checked input item f is) s t p q
+  one_piece_text job input item (carried bytes e) is s t p q = p ∙ sym q
+
+  one_text_of : (job : Job) (input : List ℕ) (items : List Item) (pieces : List Piece) → ArePieces input items pieces → (s t : List ℕ) →
+      AreTexts job pieces s → AreTexts job pieces t → s ≡ t
+  one_text_of job input [] [] are s t p q = p ∙ sym q
+  one_text_of job input [] (piece ∷ pieces) are s t p q = absurd are
+  one_text_of job input (item ∷ items) [] are s t p q = absurd are
+  one_text_of job input (item ∷ items) (piece ∷ pieces) are s t p q =
+      p.4 ∙ ap (λ x. x ++ p.1) (one_piece_text job input item piece are.0 p.0 q.0 p.2 q.2)
+      ∙ ap (λ x. q.0 ++ x) (one_text_of job input items pieces are.1 p.1 q.1 p.3 q.3) ∙ sym q.4
 
   pub one_module_text : (job : Job) (strict : Bool) (input text other notes others : List ℕ) → IsModuleText job strict input text notes →
       IsModuleText job strict input other others → (text ≡ other) × (notes ≡ others)
   one_module_text job strict input text other notes others p q =
       let same : p.pieces ≡ q.pieces = one input p.pieces q.pieces p.«module».splits q.«module».splits in (
-        one_text_of job q.pieces text other (subst (λ ps. AreTexts job ps text) same p.texts) q.texts,
+        one_text_of job input q.«module».splits.items q.pieces q.«module».splits.are text other (subst (λ ps. AreTexts job ps text) same p.texts) q.texts,
         p.notes_are ∙ ap notes_of same ∙ sym q.notes_are,
       )
 

@@ -1,13 +1,6 @@
 pub mod Acceptance
-pub mod First
-pub mod Fold
-pub mod KnownNames
-pub mod Left
-pub mod Marks
-pub mod Meaning
 pub mod Module
-pub mod Outcomes
-pub mod Refines
+pub mod Optimised
 pub mod Refusals
 pub mod Sound
 pub mod Works

@@ -1,5 +1,5 @@
 -- The text of a module: what a job writes for each of its pieces, and the notes on the functions that stay as they are.
-use Rattle.std.specs.Prelude.{◌≡◌, ◌⊎◌, ⊤, ℕ, Bool, true, List, [], ◌∷◌, ◌++◌, flat_map, filter_map, Option, Some, None, Ok, codes, decimal, slice_range}
+use Rattle.std.specs.Prelude.{◌≡◌, ⊤, ℕ, Bool, true, List, [], ◌∷◌, ◌++◌, flat_map, filter_map, Option, Some, None, Ok, codes, decimal, slice_range}
 use Rattle.vfa_ir.specs.declared.functions.Function.{Function}
 use Rattle.vfa_ir.specs.declared.reasons.Kind.{Kind}
 use Rattle.vfa_ir.specs.declared.reasons.Outside.{Outside}
@@ -11,13 +11,11 @@ use Rattle.vfa_ir.specs.Tokens.{tokens_of}
 use Rattle.vfa_module.specs.declared.items.Item.{Item}
 use Rattle.vfa_module.specs.Split.{split_of}
 use Rattle.vfa_print.specs.Layout.{name_text, line_feed}
-use Rattle.vfa_print.specs.Trees.{function_text}
 use Rattle.vfa_report.specs.Report.{IsReport}
 use Rattle.vfa_opt.specs.declared.jobs.Job.{Job}
 use Rattle.vfa_opt.specs.declared.work.Carried.{Carried}
 use Rattle.vfa_opt.specs.Acceptance.{IsInside, StaysFor}
-use Rattle.vfa_opt.specs.First.{IsFirst}
-use Rattle.vfa_opt.specs.Fold.{folded}
+use Rattle.vfa_opt.specs.Optimised.{IsOptimisedText}
 
 -- A piece of a module: bytes between defines, a define that is a function of the profile, or a define that stays as it
 -- is, and why.
@@ -41,13 +39,9 @@ ArePieces input [] [] = ⊤
 ArePieces input (item ∷ items) (piece ∷ pieces) = IsPiece input item piece × ArePieces input items pieces
 ArePieces input _ _ = ⊥
 
--- What `opt` writes for a function: one of one block of bitwise operations has its constants folded.
-abbrev pub IsPrinted : Function → List ℕ → Type 0
-IsPrinted f text = (IsFirst f × (text ≡ function_text (folded f))) ⊎ ((IsFirst f → ⊥) × (text ≡ function_text f))
-
--- What a job writes for an accepted function. `facts`: the report by the function's table.
+-- What a job writes for an accepted function. `opt`: the text of the optimised function; `facts`: the report by its table.
 abbrev pub IsFunctionText : Job → Function → List ℕ → Type 0
-IsFunctionText Job.Opt = IsPrinted
+IsFunctionText Job.Opt = IsOptimisedText
 IsFunctionText Job.Facts = IsReport
 
 -- what a job writes for all other bytes: `opt` copies them, and `facts` leaves them out

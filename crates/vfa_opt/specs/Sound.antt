@@ -1,23 +1,28 @@
 -- What is claimed of the texts that stand for accepted functions.
-use Rattle.std.specs.Prelude.{◌≡◌, ⊤, ℕ, List, All}
+use Rattle.std.specs.Prelude.{⊤, ℕ, List, All}
 use Rattle.vfa_ir.specs.declared.functions.Function.{Function}
 use Rattle.vfa_ir.specs.declared.functions.Lines.{Lines}
 use Rattle.vfa_ir.specs.Reads.{Reads}
+use Rattle.vfa_mean.specs.Refines.{Refines}
+use Rattle.vfa_xfer.specs.declared.any_fact.AnyFact.{AnyFact}
+use Rattle.vfa_xfer.specs.Transfers.{fact_answers}
+use Rattle.vfa_walk.specs.Tables.{States, IsTableOf}
+use Rattle.vfa_rewrite.specs.PrintedNumbers.{PrintsNumbers}
 use Rattle.vfa_report.specs.Report.{IsReport, report_lines}
 use Rattle.vfa_report.specs.BestBits.{LineIsBest}
 use Rattle.vfa_report.specs.ReportTruth.{LineHolds}
 use Rattle.vfa_opt.specs.declared.jobs.Job.{Job}
-use Rattle.vfa_opt.specs.First.{IsFirst}
 use Rattle.vfa_opt.specs.Module.{Piece, copied, accepted, carried, IsFunctionText}
-use Rattle.vfa_opt.specs.Refines.{Refines}
 
--- A text that reads as a function which refines this one. Where no constants are folded, it is this one.
+-- A text that reads as a function which refines this one: for all arguments, all answers of the functions that it calls, and any number
+-- of entered blocks it has only outcomes that this one allows. And each operand of this one that the table knows to be one number is
+-- printed as that number, wherever its line is still printed.
 pub record IsRefinement (f : Function) (text : List ℕ) : Type 0 where
   pub function : Function
   pub lines : Lines
   pub reads : Reads text function lines
   pub refines : Refines f function
-  pub same : (IsFirst f → ⊥) → function ≡ f
+  pub numbers : (t : States AnyFact) → IsTableOf fact_answers f t → PrintsNumbers f t function
 
 -- The text is the report by the function's table, and each of its lines holds of the function's runs: whenever a run comes to the
 -- line's place, what the line shows of a name is so, and no run comes to a place that is said never to be reached or passed. Of the

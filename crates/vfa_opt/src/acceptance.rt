@@ -1,6 +1,8 @@
 //! Which defines are functions of the profile.
 
-ghost use Rattle.std.specs.Prelude.{◌≡◌, ◌⊎◌, ℕ, List, IfOk, IfErr, OnOk};
+ghost use Rattle.std.specs.Prelude.{◌≡◌, ◌≤◌, ◌⊎◌, ℕ, List, IfOk, IfErr, OnOk, length};
+ghost use Rattle.vfa_check.specs.Checked.{IsChecked};
+ghost use Rattle.vfa_ir.specs.Limits.{most_names};
 ghost use Rattle.vfa_ir.specs.Tokens.{tokens_of};
 ghost use Rattle.vfa_ir.specs.declared.functions.Function.{Function};
 ghost use Rattle.vfa_ir.specs.declared.reasons.Outside.{Outside};
@@ -9,8 +11,8 @@ ghost use Rattle.vfa_opt.specs.Acceptance.{IsInside, IsOutside};
 
 use std::alloc::Global;
 use vfa_check::{
-    Checked, accepted_may_be_checked, check, one_refusal, refused_is_ill_formed,
-    well_formed_or_refused,
+    Checked, accepted_may_be_checked, check, fit_defines_once, fit_is_within, one_refusal,
+    refused_is_ill_formed, well_formed_or_refused,
 };
 use vfa_ir::{Outside, Token};
 use vfa_read::{
@@ -68,4 +70,14 @@ pub fn one_answer()
     accepted_has_no_reason();
     one_refusal();
     refused_is_ill_formed();
+}
+
+/// A law: a function of the profile is one that was checked, and it has as many names as the profile allows at most.
+pub fn inside_is_checked()
+    ensures checked { (text : List ℕ) (f : Function) → IsInside text f → IsChecked f }
+    ensures few { (text : List ℕ) (f : Function) → IsInside text f → length f.values ≤ most_names }
+{
+    accepted_may_be_checked();
+    fit_is_within();
+    fit_defines_once();
 }

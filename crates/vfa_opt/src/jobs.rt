@@ -3,7 +3,7 @@
 /// What is made of a module.
 #[derive(Debug, Drop, PartialEq, Eq)]
 pub enum Job {
-    /// The module with the constants of its functions folded.
+    /// The module with its functions optimised.
     Opt,
     /// What is known of the names of its functions: a report on each.
     Facts,

@@ -6,7 +6,8 @@ ghost use Rattle.vfa_opt.specs.declared.refusals.Refused.{Refused};
 ghost use Rattle.vfa_opt.specs.Module.{Piece, Splits, IsModule, IsModuleText};
 ghost use Rattle.vfa_opt.specs.Refusals.{IsRefusal};
 
-use crate::acceptance::{inside_or_outside, one_answer};
+use crate::acceptance::{inside_is_checked, inside_or_outside, one_answer};
+use crate::optimised::one_optimised;
 use vfa_report::one_report;
 
 /// An input has at most one list of pieces.
@@ -38,6 +39,8 @@ pub fn one_text()
     ensures { (job : Job) (strict : Bool) (input text other notes others : List ℕ) → IsModuleText job strict input text notes →
         IsModuleText job strict input other others → (text ≡ other) × (notes ≡ others) }
 {
+    inside_is_checked();
     one_list_of_pieces();
+    one_optimised();
     one_report();
 }

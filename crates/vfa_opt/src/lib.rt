@@ -4,16 +4,14 @@
 
 mod acceptance;
 mod defines;
-mod first;
-mod fold;
 mod item_work;
 mod jobs;
 mod joined;
 mod laws;
-pub mod meaning;
 mod modules;
 mod names;
 mod notes;
+mod optimised;
 mod printed;
 mod refusals;
 mod reported;

@@ -83,8 +83,8 @@ fn worked_out<R: AllocGlobal + Threads + Sync, G: Gate>(
 
 /// The job's text of a module and the notes on its functions that stay as they are; or why the module is refused.
 ///
-/// `Job::Opt`: each define that is a function of the profile is printed, with its constants folded where it is one block
-/// of bitwise operations. Every other define stays as it is, with a note, and so do all bytes between defines.
+/// `Job::Opt`: each define that is a function of the profile is optimised and printed; what is printed reads as a function that refines
+/// it. Every other define stays as it is, with a note, and so do all bytes between defines.
 ///
 /// `Job::Facts`: for each define that is a function of the profile the report by its table, each line of which holds whenever a
 /// run comes to its place. Every other define has a note. All else is left out.

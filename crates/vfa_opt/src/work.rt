@@ -10,7 +10,7 @@ ghost use Rattle.vfa_opt.specs.Module.{accepted, IsFunctionText, define_name as 
 ghost use Rattle.vfa_opt.specs.Sound.{IsSound};
 ghost use Rattle.vfa_opt.specs.Works.{IsPlaced, IsRange, IsWorkOn, IsWorked};
 
-use crate::acceptance::accept;
+use crate::acceptance::{accept, inside_is_checked};
 use crate::defines::define_name;
 use crate::jobs::Job;
 use crate::printed::printed;
@@ -60,17 +60,19 @@ pub enum Worked {
 
 /// The text that a job writes for an accepted function.
 fn function_text(alloc: Global, job: &Job, f: &Checked) -> Result<Vec<u8>, AllocError>
+    requires few { length f.now.values ≤ 2 ^ 26 }
     ensures text { IfOk result (λ text. IsFunctionText job.now f.now text.items) }
     ensures sound { IfOk result (λ _. (text : List ℕ) → IsFunctionText job.now f.now text → IsSound job.now f.now text) }
 {
     match job {
-        Job::Opt => printed(alloc, f.function()),
+        Job::Opt => printed(alloc, f),
         Job::Facts => reported(alloc, f),
     }
 }
 
 /// The text that a job writes for an accepted function, and its name.
 fn function_work(alloc: Global, job: &Job, f: &Checked) -> Result<Worked, AllocError>
+    requires few { length f.now.values ≤ 2 ^ 26 }
     ensures { (input : List ℕ) → IfOk result (IsWorkOn job.now input (accepted f.now)) }
 {
     let text = function_text(alloc, job, f)?;
@@ -148,6 +150,7 @@ fn define_work(
     requires line { line ≤ 16777217 }
     ensures { IfOk result (IsWorked job.now bytes.now (Define start end line)) }
 {
+    inside_is_checked();
     let text = &bytes[start..end];
     let all = tokens(alloc, text)?;
     match accept(alloc, text, &all) {

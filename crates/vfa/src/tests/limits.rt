@@ -14,11 +14,11 @@ fn unused_results<R: AllocGlobal>(rt: &R, count: u32) -> Result<Vec<u8>, Fail> {
 
 #[test]
 fn reads_as_many_names_as_allowed(rt: HostRuntime) -> Result<(), Fail> {
-    let folded = b"define i8 @n(i8 %x) {
+    let printed = b"define i8 @n(i8 %x) {
   ret i8 %x
 }
 ";
-    check_prints(&rt, &unused_results(&rt, 4095)?, folded)?;
+    check_prints(&rt, &unused_results(&rt, 4095)?, printed)?;
     check_carried(
         &rt,
         &unused_results(&rt, 4096)?,
@@ -55,11 +55,26 @@ fn large<R: AllocGlobal>(rt: &R, size: Size) -> Result<Vec<u8>, Fail> {
     Ok(text)
 }
 
+// Unused results go, and so do blocks that no edge leads to.
+#[test]
+fn optimises_a_function_at_the_limits(rt: HostRuntime) -> Result<(), Fail> {
+    let input = Size {
+        results: 4095,
+        blocks: 1024,
+        cases: 1024,
+    };
+    let printed = Size {
+        results: 0,
+        blocks: 2,
+        cases: 1024,
+    };
+    check_prints(&rt, &large(&rt, input)?, &large(&rt, printed)?)
+}
+
 // Names go before blocks, and blocks before cases.
 #[test]
 fn keeps_the_limits(rt: HostRuntime) -> Result<(), Fail> {
-    let cases: [(u32, u32, u32, &[u8]); 5] = [
-        (4095, 1024, 1024, b""),
+    let cases: [(u32, u32, u32, &[u8]); 4] = [
         (0, 2, 1025, b"note: @s carried: TooMany cases\n"),
         (0, 1025, 0, b"note: @s carried: TooMany blocks\n"),
         (0, 1025, 1025, b"note: @s carried: TooMany blocks\n"),

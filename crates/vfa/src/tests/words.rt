@@ -1,4 +1,4 @@
-//! Numbers of workers outside the form.
+//! Words outside the form.
 use super::*;
 
 /// Runs the words, which are no command.
@@ -48,4 +48,23 @@ fn one_job_is_given(rt: HostRuntime) -> Result<(), Fail> {
     check_usage(&rt, &["opt", "facts"])?;
     check_usage(&rt, &["facts", "facts"])?;
     check_usage(&rt, &["Facts"])
+}
+
+// Options of jobs that are not built, and none at all.
+#[test]
+fn other_options_are_in_no_command(rt: HostRuntime) -> Result<(), Fail> {
+    let cases: [&[&str]; 8] = [
+        &["opt", "--function", "f"],
+        &["opt", "--seed=1"],
+        &["facts", "--block=entry"],
+        &["opt", "--workers", "--strict"],
+        &["opt", "--strict=", "--workers=1"],
+        &["opt", "-w", "1"],
+        &["opt", "--worker=1"],
+        &["--", "opt", "--workers=1"],
+    ];
+    for words in cases {
+        check_usage(&rt, words)?;
+    }
+    Ok(())
 }

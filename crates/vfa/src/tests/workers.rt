@@ -22,18 +22,37 @@ exit:
 }
 ";
 
-/// So many functions, named f0 and so on, each before an empty line but the first.
-fn counts<R: AllocGlobal>(rt: &R, functions: u32) -> Result<Vec<u8>, Fail> {
-    let mut input = Vec::new(rt.alloc());
+/// The same, as it is printed.
+const COUNT_PRINTED: &[u8] = b"() {
+entry:
+  br label %head
+
+head:
+  %i = phi i32 [ 0, %entry ], [ %n, %body ]
+  %c = icmp samesign ult i32 %i, 10
+  br i1 %c, label %body, label %exit
+
+body:
+  %n = add nuw nsw i32 %i, 1
+  br label %head
+
+exit:
+  ret i32 10
+}
+";
+
+/// So many functions of this body, named f0 and so on, each before an empty line but the first.
+fn counts<R: AllocGlobal>(rt: &R, functions: u32, body: &[u8]) -> Result<Vec<u8>, Fail> {
+    let mut text = Vec::new(rt.alloc());
     for number in 0..functions {
         if number > 0 {
-            input.extend_from_slice(b"\n")?;
+            text.extend_from_slice(b"\n")?;
         }
         let name = format!(in rt.alloc(); "define i32 @f{number}")?;
-        input.extend_from_slice(name.as_bytes())?;
-        input.extend_from_slice(COUNT)?;
+        text.extend_from_slice(name.as_bytes())?;
+        text.extend_from_slice(body)?;
     }
-    Ok(input)
+    Ok(text)
 }
 
 /// The words of `opt` with so many workers give this end.
@@ -56,10 +75,11 @@ fn check_workers<R: AllocGlobal + Abort + Threads + Sync>(
 
 #[test]
 fn the_text_is_the_same_for_every_number_of_workers(rt: HostRuntime) -> Result<(), Fail> {
-    let input = counts(&rt, 64)?;
+    let input = counts(&rt, 64, COUNT)?;
+    let printed = counts(&rt, 64, COUNT_PRINTED)?;
     let want = End {
         status: Status::Done,
-        out: &input,
+        out: &printed,
         err: b"",
     };
     check_workers(&rt, &["1", "4", "64"], &input, want)
@@ -123,7 +143,8 @@ impl Gate for Meeting {
 
 #[test]
 fn two_pieces_of_a_module_meet_at_the_gate(rt: HostRuntime) -> Result<(), Fail> {
-    let input = counts(&rt, 2)?;
+    let input = counts(&rt, 2, COUNT)?;
+    let printed = counts(&rt, 2, COUNT_PRINTED)?;
     let mut ends = roomy(&rt, &input, 1 << 16)?;
     let gate = Meeting {
         started: AtomicU32::new(0),
@@ -144,7 +165,7 @@ fn two_pieces_of_a_module_meet_at_the_gate(rt: HostRuntime) -> Result<(), Fail> 
         ),
         Status::Done
     );
-    assert_eq!(rt; ends.out.bytes(), input.as_slice());
+    assert_eq!(rt; ends.out.bytes(), printed.as_slice());
     assert_eq!(rt; gate.gave_up.load(Ordering::SeqCst), 0);
     Ok(())
 }

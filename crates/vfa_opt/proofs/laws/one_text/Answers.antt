@@ -2,4 +2,4 @@ use Rattle.vfa_opt.proofs.EachInput.{one_module_text}
 use Rattle.vfa_opt.proofs.laws.one_text.Goals as goal
 
 pub returns : goal.returns
-returns c = one_module_text c.one_list_of_pieces.ensures c.one_report.ensures
+returns c = one_module_text c.one_list_of_pieces.ensures c.one_report.ensures c.one_optimised.ensures c.inside_is_checked.ensures.checked
