@@ -15,7 +15,7 @@ cases_false : (x : Bool) → (x && true) ≡ false → x ≡ false
 cases_false true e = e
 cases_false false e = refl
 
-positive : (n : ℕ) → (n == 0) ≡ false → 0 < n
+pub positive : (n : ℕ) → (n == 0) ≡ false → 0 < n
 positive zero e = absurd (cc)
 positive (suc n) e = omega arith
 

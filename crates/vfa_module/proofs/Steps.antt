@@ -1,4 +1,4 @@
--- Steps of the loops over a define's tokens and over the lines of a text.
+-- Steps of the loop over the lines of a text.
 use Rattle.std.proofs.Common.{inl, inr, ◌≡◌, ℕ, zero, suc, ◌+◌, ◌-◌, ◌<◌, ◌≤◌, ◌==◌, ◌≢◌, ◌&&◌, ◌||◌, Bool, true, false, List, [], ◌∷◌, ◌++◌, append_assoc, Result, Ok, Err, nat_eq, nat_lt, codes, not, cond, length, take, drop, get_or, Some, None, refl, sym, subst, ap, add-one, ◌∙◌, arith, drop-cons, length-drop}
 use Rattle.std.proofs.lemmas.Bool.{cases_lt, cases_order, eqb-true, eqb-false, true≢false}
 use Rattle.std.proofs.lemmas.List.{drop-drop, get_or-drop}
@@ -12,20 +12,6 @@ use Rattle.vfa_module.specs.Defines.{AreApart, BeginsDefine, BeginsLine, HasMore
 use Rattle.vfa_module.specs.Split as spec
 use Rattle.vfa_module.specs.declared.items.Item.{Item}
 use Rattle.vfa_module.specs.declared.items.SplitFault.{SplitFault}
-
-pub header_step :
-    (text : List ℕ) (named : Bool) (parens : ℕ) (ts rest : List Token) (t : Token) → ts ≡ t ∷ rest →
-    spec.opens_body named parens (spec.first_byte text t) ≡ false →
-    spec.closing_of_define text named parens ts ≡
-    spec.closing_of_define text (named || spec.is_global t.kind) (spec.parens_after parens (spec.first_byte text t)) rest
-header_step text named parens ts rest t e h = rw (e, h) refl
-
-pub body_step :
-    (text : List ℕ) (braces : ℕ) (ts rest : List Token) (t : Token) → ts ≡ t ∷ rest →
-    spec.closes_body braces (spec.first_byte text t) ≡ false →
-    spec.closing_of_body text braces ts ≡
-    spec.closing_of_body text (spec.braces_after braces (spec.first_byte text t)) rest
-body_step text braces ts rest t e h = rw (e, h) refl
 
 -- the bytes of a line or a define are passed over
 defines-skip :

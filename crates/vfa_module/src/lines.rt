@@ -1,6 +1,7 @@
 //! Lines, and the word that begins a define.
 
-ghost use Rattle.std.specs.Prelude.{◌≡◌, ◌<◌, ◌≤◌, ◌+◌, ◌==◌, length, position, IfSome};
+ghost use Rattle.std.specs.Prelude.{◌≡◌, ◌<◌, ◌≤◌, ◌+◌, ◌^◌, ◌==◌, length, position, IfSome};
+ghost use Rattle.vfa_ir.specs.Tokens as tokens;
 ghost use Rattle.vfa_module.specs.Split as spec;
 
 use vfa_ir::is_blank;
@@ -74,6 +75,29 @@ fn line_feed(bytes: &[u8]) -> Option<usize>
     ensures within { IfSome result (λ n. n < length bytes.now) }
 {
     bytes.iter().position(|b| *b == b'\n')
+}
+
+/// How many bytes stand before the end of the line.
+pub(crate) fn line_length(bytes: &[u8]) -> usize
+    ensures count { result ≡ tokens.line_len bytes.now }
+    ensures within { result ≤ length bytes.now }
+{
+    bytes.iter().take_while(|b| **b != b'\n').count()
+}
+
+/// How many lines end in the bytes.
+pub(crate) fn line_feeds(bytes: &[u8]) -> u32
+    requires { length bytes.now < 2 ^ 32 }
+    ensures count { result ≡ tokens.line_feeds bytes.now }
+    ensures bound { result ≤ length bytes.now }
+{
+    let mut count: u32 = 0;
+    for b in bytes {
+        if *b == b'\n' {
+            count += 1;
+        }
+    }
+    count
 }
 
 /// Whether white space or a comment is all up to the end of the line.

@@ -114,6 +114,40 @@ fn a_define_and_its_lines(rt: HostRuntime) {
 }
 
 #[test]
+fn brackets_in_strings_and_comments_are_none(rt: HostRuntime) {
+    let text = b"define i8 @ { } ; @g {
+@\"f}\" ; {
+(\"{\" %\"}\") { c\"}\" ; }
+\"}\":
+} ; c
+";
+    let parts = [
+        Item::Define {
+            start: 0,
+            end: 61,
+            line: 1,
+        },
+        Item::Lines { start: 61, end: 66 },
+    ];
+    assert!(rt; splits(rt.alloc(), text, &parts));
+    assert!(rt; fails(rt.alloc(), b"define i8 @ { }\n", SplitFault::Unclosed(0)));
+    assert!(rt;
+        fails(
+            rt.alloc(),
+            b"define @f() { %\" }\n",
+            SplitFault::Unclosed(0)
+        )
+    );
+    assert!(rt;
+        fails(
+            rt.alloc(),
+            b"define @f() { \"\n\n\" } x\n",
+            SplitFault::BadLine(3)
+        )
+    );
+}
+
+#[test]
 fn the_first_failure(rt: HostRuntime) {
     assert!(rt; fails(rt.alloc(), &MASKS[..7], SplitFault::Unclosed(0)));
     assert!(rt; fails(rt.alloc(), &MASKS[..84], SplitFault::Unclosed(0)));

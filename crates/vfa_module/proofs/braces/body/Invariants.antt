@@ -1,20 +1,18 @@
-use Rattle.std.proofs.Common.{◌≡◌, ◌≤◌, ◌+◌, ◌-◌, length, take}
-use Rattle.vfa_ir.specs.Tokens as tokens
+use Rattle.std.proofs.Common.{◌≡◌, ◌≤◌, ◌-◌, ℕ, length}
+use Rattle.vfa_module.specs.Scan.{tokens_on}
 use Rattle.vfa_module.specs.Split as spec
 use Rattle.vfa_module.proofs.braces.body.Given as goal
 
-abbrev pub invariant-loop-token : goal.invariant-loop-token
-invariant-loop-token l = record {
+abbrev pub invariant-loop-at : goal.invariant-loop-at
+invariant-loop-at l = record {
   after : l.fn.start ≤ l.at;
   within : l.at ≤ length l.bytes;
-  lines : l.on + l.fn.start ≤ l.fn.line + l.at;
   parens : l.parens ≤ l.at;
-  counted :
-      l.on + tokens.line_feeds (take l.fn.start l.bytes) ≡ l.fn.line + tokens.line_feeds (take l.at l.bytes);
   same :
-      spec.closing_brace l.bytes l.fn.start l.fn.line ≡
-      spec.closing_of_define l.bytes l.named l.parens (tokens.tokens_from l.bytes l.at l.on);
+      (line : ℕ) →
+      spec.closing_brace l.bytes l.fn.start line ≡
+      spec.closing_of_define l.bytes l.named l.parens (tokens_on l.bytes l.fn.start line l.at);
 }
 
-abbrev pub decreases-loop-token : goal.decreases-loop-token
-decreases-loop-token l = length l.bytes - l.at
+abbrev pub decreases-loop-at : goal.decreases-loop-at
+decreases-loop-at l = length l.bytes - l.at

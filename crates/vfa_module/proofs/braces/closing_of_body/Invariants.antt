@@ -1,20 +1,18 @@
-use Rattle.std.proofs.Common.{◌≡◌, ◌≤◌, ◌+◌, ◌-◌, length, take}
-use Rattle.vfa_ir.specs.Tokens as tokens
+use Rattle.std.proofs.Common.{◌≡◌, ◌≤◌, ◌-◌, ℕ, length}
+use Rattle.vfa_module.specs.Scan.{tokens_on}
 use Rattle.vfa_module.specs.Split as spec
 use Rattle.vfa_module.proofs.braces.closing_of_body.Given as goal
 
-abbrev pub invariant-loop-token : goal.invariant-loop-token
-invariant-loop-token l = record {
-  after : l.fn.place.at ≤ l.at;
+abbrev pub invariant-loop-at : goal.invariant-loop-at
+invariant-loop-at l = record {
+  after : l.fn.from ≤ l.at;
   within : l.at ≤ length l.bytes;
-  lines : l.line + l.fn.place.at ≤ l.fn.place.line + l.at;
   braces : l.braces ≤ l.at;
-  counted :
-      l.line + tokens.line_feeds (take l.fn.place.at l.bytes) ≡ l.fn.place.line + tokens.line_feeds (take l.at l.bytes);
   same :
-      spec.closing_of_body l.bytes 0 (tokens.tokens_from l.bytes l.fn.place.at l.fn.place.line) ≡
-      spec.closing_of_body l.bytes l.braces (tokens.tokens_from l.bytes l.at l.line);
+      (start line : ℕ) → start ≤ l.fn.from →
+      spec.closing_of_body l.bytes 0 (tokens_on l.bytes start line l.fn.from) ≡
+      spec.closing_of_body l.bytes l.braces (tokens_on l.bytes start line l.at);
 }
 
-abbrev pub decreases-loop-token : goal.decreases-loop-token
-decreases-loop-token l = length l.bytes - l.at
+abbrev pub decreases-loop-at : goal.decreases-loop-at
+decreases-loop-at l = length l.bytes - l.at
