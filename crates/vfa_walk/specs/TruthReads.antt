@@ -1,4 +1,3 @@
--- helper: in no public contract
 -- The names of a table that are read at a block by what works on tables: a rewriter of the block, and a report on it. They are
 -- the operands of its instructions, its terminator and the phis that its edges lead to; what may stand in the place of such an
 -- operand; what narrowing follows from it through equations; and where the function begins the parameters.

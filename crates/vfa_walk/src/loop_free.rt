@@ -1,6 +1,6 @@
 //! The table of a function without loops.
 
-ghost use Rattle.std.specs.Prelude.{◌≡◌, ℕ, List, IfOk, MatchBool, MatchOption, false, true};
+ghost use Rattle.std.specs.Prelude.{◌≡◌, ℕ, List, IfOk, MatchBool, MatchOption, false, length, true};
 ghost use Rattle.std.specs.Option.{ForSome};
 ghost use Rattle.vfa_ir.specs.declared.operations.BlockId.{BlockId};
 ghost use Rattle.vfa_cfg.specs.Heads.{is_head};
@@ -42,6 +42,7 @@ pub fn table_without_loops<V: Values>(
         MatchOption o ((b : ℕ) × (is_head f.now order b ≡ true)) (λ _. (b : ℕ) → is_head f.now order b ≡ false)) }
     ensures table { IfOk result (λ o. ForSome o (λ t. IsTableOf V.answers f.now (kept_entries t))) }
     ensures states { IfOk result (λ o. ForSome o (AreStates V.ty V.proper f.now)) }
+    ensures count { IfOk result (λ o. ForSome o (λ t. length t ≡ length f.now.blocks)) }
 {
     let order = f.order();
     if has_head(f, ready(f), order) {

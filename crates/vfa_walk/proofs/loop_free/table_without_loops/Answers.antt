@@ -33,3 +33,6 @@ returns-clause-table g c =
 
 pub returns-clause-states : goal.returns-clause-states
 returns-clause-states g c = some_of _ _ c.in_ok-passed.ensures.states.0
+
+pub returns-clause-count : goal.returns-clause-count
+returns-clause-count g c = some_of _ _ c.in_ok-passed.ensures.count
