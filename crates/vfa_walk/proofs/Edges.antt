@@ -7,15 +7,20 @@ use Rattle.vfa_ir.specs.declared.operations.BlockId.{BlockId}
 use Rattle.vfa_ir.specs.declared.functions.Block.{Block}
 use Rattle.vfa_ir.specs.declared.functions.Function.{Function}
 use Rattle.vfa_ir.specs.declared.functions.Term.{Term}
+use Rattle.std.proofs.lemmas.Bool.Decides.{nat_tests}
 use Rattle.vfa_ir.specs.PhisFit.{targets}
+use Rattle.vfa_ir.specs.Walks.{is_in, successors}
 use Rattle.vfa_cfg.specs.declared.listing.Edge.{Edge}
 use Rattle.vfa_cfg.specs.declared.listing.Way.{Way}
 use Rattle.vfa_cfg.specs.Edges.{edge, case_edges, block_edges}
 use Rattle.vfa_values.specs.Answers.{Answers}
 use Rattle.vfa_cond.specs.States.{AbstractState}
 use Rattle.vfa_walk.specs.Joining.{joined}
-use Rattle.vfa_walk.specs.Leaving.{along_way, along_edge, joined_edges, edges_out, paired}
+use Rattle.vfa_walk.specs.Leaving.{along_way, along_edge, joined_edges, edges_out, paired, with_phis}
 use Rattle.vfa_walk.specs.Passes.{merged}
+use Rattle.vfa_walk.specs.Sending.{sent}
+use Rattle.vfa_walk.specs.Tables.{States}
+use Rattle.vfa_walk.proofs.PassEquations.{if_no, or_none}
 use Rattle.vfa_walk.proofs.Steps.{from_place}
 use Rattle.vfa_ir.specs.declared.operations.Operand.{Operand}
 use Rattle.vfa_cond.specs.Narrowing.{Becomes, and_then}
@@ -73,12 +78,15 @@ edges_count from Term.Unreachable = refl
 
 -- ---- what is joined
 
-module _ {V : Type 0} (answers : Answers V) (f : Function) (from to : ℕ) (block : Block) (is : slice_get f.blocks from ≡ Some block) (s : AbstractState V) where
-  pub out_is : edges_out f from ≡ block_edges from block.term
-  out_is = rw (is, edges_out) refl
+pub out_is : (f : Function) (from : ℕ) (block : Block) → slice_get f.blocks from ≡ Some block → edges_out f from ≡ block_edges from block.term
+out_is f from block is = rw (is, edges_out) refl
 
+leads_out : (f : Function) (from : ℕ) (block : Block) → slice_get f.blocks from ≡ Some block → successors f from ≡ map (λ t. t.0) (targets block.term)
+leads_out f from block is = rw (is, successors) refl
+
+module _ {V : Type 0} (answers : Answers V) (f : Function) (from to : ℕ) (block : Block) (is : slice_get f.blocks from ≡ Some block) (s : AbstractState V) where
   pub pair_begins : paired answers f from to s ≡ joined_edges answers f to s (drop 0 (block_edges from block.term)) None
-  pair_begins = ap (λ list. joined_edges answers f to s list None) out_is
+  pair_begins = ap (λ list. joined_edges answers f to s list None) (out_is f from block is)
 
   pub pair_more : (k : ℕ) (e : Edge) (sum next : Option (AbstractState V)) → slice_get (block_edges from block.term) k ≡ Some e → e.from.0 ≡ from →
       paired answers f from to s ≡ joined_edges answers f to s (drop k (block_edges from block.term)) sum →
@@ -98,6 +106,51 @@ module _ {V : Type 0} (answers : Answers V) (f : Function) (from to : ℕ) (bloc
   pub pair_ends : (k : ℕ) (sum : Option (AbstractState V)) → drop k (block_edges from block.term) ≡ [] →
       paired answers f from to s ≡ joined_edges answers f to s (drop k (block_edges from block.term)) sum → paired answers f from to s ≡ sum
   pair_ends k sum nothing sofar = sofar ∙ ap (λ list. joined_edges answers f to s list sum) nothing
+
+-- ---- no edge leads to the block
+
+pub none_leads : (list : List ℕ) (to : ℕ) → slice_get list 0 ≡ None → is_in to list ≡ true → ⊥
+none_leads [] to e there = cc
+none_leads (x ∷ list) to e there = cc
+
+turned : (a b : ℕ) → nat_eq a b ≡ nat_eq b a
+turned a b = grind (arith, nat_tests)
+
+cases_lead : (from j : ℕ) (cases : List (ℕ × BlockId)) → map (λ e. e.to.0) (case_edges from j cases) ≡ map (λ t. t.0) (map (λ c. c.1) cases)
+cases_lead from j [] = refl
+cases_lead from j (c ∷ rest) = ap (λ list. c.1.0 ∷ list) (cases_lead from (j + 1) rest)
+
+edges_lead : (from : ℕ) (term : Term) → map (λ e. e.to.0) (block_edges from term) ≡ map (λ t. t.0) (targets term)
+edges_lead from (Term.Ret _ _) = refl
+edges_lead from (Term.Br to) = refl
+edges_lead from (Term.CondBr _ yes_to no_to) = refl
+edges_lead from (Term.Switch _ _ other cases) = ap (λ list. other.0 ∷ list) (cases_lead from 0 cases)
+edges_lead from Term.Unreachable = refl
+
+module _ {V : Type 0} (answers : Answers V) (f : Function) (from to : ℕ) (s : AbstractState V) where
+  joined_skips : (edges : List Edge) (sum : Option (AbstractState V)) → is_in to (map (λ e. e.to.0) edges) ≡ false → joined_edges answers f to s edges sum ≡ sum
+  joined_skips [] sum absent = refl
+  joined_skips (e ∷ rest) sum absent =
+      let parts : (nat_eq to e.to.0 ≡ false) × (is_in to (map (λ e. e.to.0) rest) ≡ false) = or_none (nat_eq to e.to.0) (is_in to (map (λ e. e.to.0) rest)) absent in
+      ap (joined_edges answers f to s rest) (if_no (nat_eq e.to.0 to) (merged (joined answers) sum (along_edge answers f e s)) sum (turned e.to.0 to ∙ parts.0))
+      ∙ joined_skips rest sum parts.1
+
+  pub no_pair : is_in to (successors f from) ≡ false → paired answers f from to s ≡ None
+  no_pair absent = at (slice_get f.blocks from) refl
+    where
+      at : (found : Option Block) → slice_get f.blocks from ≡ found → paired answers f from to s ≡ None
+      at None is = rw (is, edges_out) refl
+      at (Some block) is =
+          ap (λ list. joined_edges answers f to s list None) (out_is f from block is)
+          ∙ joined_skips (block_edges from block.term) None
+          (ap (is_in to) (edges_lead from block.term ∙ sym (leads_out f from block is)) ∙ absent)
+
+pub no_sent : {V : Type 0} (answers : Answers V) (f : Function) (ends : States V) (from to : ℕ) → is_in to (successors f from) ≡ false → sent answers f ends to from ≡ None
+no_sent {V = V} answers f ends from to absent = ap (option_map (with_phis answers f from to)) (at (ends from))
+  where
+    at : (o : Option (AbstractState V)) → and_then o (paired answers f from to) ≡ None
+    at None = refl
+    at (Some s) = no_pair answers f from to s absent
 
 -- ---- the cases of a switch that are left
 

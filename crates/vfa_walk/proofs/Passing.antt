@@ -1,10 +1,10 @@
 -- A pass in code: what its loop keeps.
-use Rattle.std.proofs.Common.{◌≡◌, ◌<◌, ◌+◌, ℕ, zero, suc, Bool, true, false, nat_eq, if◌then◌else◌, Option, Some, None, List, [], ◌∷◌, drop, length, get_or, refl, sym, ◌∙◌, ap, arith, eqb-true, eq-eqb}
+use Rattle.std.proofs.Common.{◌≡◌, ◌<◌, ◌+◌, ℕ, zero, suc, Bool, true, false, nat_eq, if◌then◌else◌, Option, Some, None, List, [], ◌∷◌, drop, length, get_or, refl, sym, ◌∙◌, ap, subst, arith, eqb-true, eq-eqb}
 use Rattle.std.specs.Option.{option_map}
 use Rattle.std.specs.List.{IsDistinct}
 use Rattle.vfa_ir.specs.declared.operations.BlockId.{BlockId}
 use Rattle.vfa_ir.specs.declared.functions.Function.{Function}
-use Rattle.vfa_ir.specs.Walks.{is_in}
+use Rattle.vfa_ir.specs.Walks.{is_in, successors}
 use Rattle.vfa_mean.specs.Outcomes.{first_block}
 use Rattle.vfa_cfg.specs.Heads.{is_head}
 use Rattle.vfa_cfg.specs.Order.{numbers}
@@ -21,6 +21,7 @@ use Rattle.vfa_walk.specs.Passes.{followed, merged, gathered, handed, met, entry
 use Rattle.vfa_walk.specs.Sending.{AreEnds, layout, sent}
 use Rattle.vfa_walk.specs.Stepping.{before_end}
 use Rattle.vfa_walk.specs.Tables.{States}
+use Rattle.vfa_walk.proofs.Edges.{no_sent}
 use Rattle.vfa_walk.proofs.Listed.{ordered_at}
 use Rattle.vfa_walk.proofs.PassEquations.{gathered_same}
 use Rattle.vfa_walk.proofs.States.{funext}
@@ -44,8 +45,13 @@ module _ {V : Type 0} (answers : Answers V) (f : Function) where
 
   pub sent_is_handed : (order : List BlockId) (names : ℕ → ℕ → Bool) (t ends : States V) → AreEnds answers f t ends → (to from : ℕ) →
       sent answers f ends to from ≡ handed (flow_of answers f (layout order names)) t to from
-  sent_is_handed order names t ends is to from =
-      ap (λ o. option_map (with_phis answers f from to) (and_then o (paired answers f from to))) (is from) ∙ same_sent from to (t from)
+  sent_is_handed order names t ends is to from = at (is_in to (successors f from)) refl
+    where
+      at : (there : Bool) → is_in to (successors f from) ≡ there → sent answers f ends to from ≡ followed (handed_on answers f from to) (t from)
+      at true there =
+          ap (λ o. option_map (with_phis answers f from to) (and_then o (paired answers f from to))) (is from to there) ∙ same_sent from to (t from)
+      at false absent =
+          no_sent answers f ends from to absent ∙ (sym (no_sent answers f (λ b. followed (before_end answers f b) (t b)) from to absent) ∙ same_sent from to (t from))
 
   -- what a block meets
   pub met_is : (order : List BlockId) (names : ℕ → ℕ → Bool) (t ends : States V) → AreEnds answers f t ends → (b : ℕ) →
@@ -88,17 +94,17 @@ module _ {V : Type 0} (answers : Answers V) (f : Function) where
   -- the states before terminators stay those of the entries
   pub ends_more : (t t' ends ends' : States V) (b : ℕ) (entry end : Option (AbstractState V)) → AreEnds answers f t ends →
       ((c : ℕ) → t' c ≡ (if nat_eq c b then entry else t c)) → ((c : ℕ) → ends' c ≡ (if nat_eq c b then end else ends c)) →
-      end ≡ followed (before_end answers f b) entry → AreEnds answers f t' ends'
-  ends_more t t' ends ends' b entry end is change end_change here c =
+      ((to : ℕ) → is_in to (successors f b) ≡ true → end ≡ followed (before_end answers f b) entry) → AreEnds answers f t' ends'
+  ends_more t t' ends ends' b entry end is change end_change here c to there =
       end_change c ∙ (at (nat_eq c b) refl ∙ ap (followed (before_end answers f c)) (sym (change c)))
     where
       at : (same : Bool) → nat_eq c b ≡ same → (if nat_eq c b then end else ends c) ≡ followed (before_end answers f c) (if nat_eq c b then entry else t c)
       at true e =
           let equal : c ≡ b = eqb-true c b e in
-          ap (λ s. if s then end else ends c) e ∙ (here ∙ (ap (λ k. followed (before_end answers f k) entry) (sym equal)
+          ap (λ s. if s then end else ends c) e ∙ (here to (subst (λ k. is_in to (successors f k) ≡ true) equal there) ∙ (ap (λ k. followed (before_end answers f k) entry) (sym equal)
           ∙ ap (λ s. followed (before_end answers f c) (if s then entry else t c)) (sym e)))
       at false e =
-          ap (λ s. if s then end else ends c) e ∙ (is c ∙ ap (λ s. followed (before_end answers f c) (if s then entry else t c)) (sym e))
+          ap (λ s. if s then end else ends c) e ∙ (is c to there ∙ ap (λ s. followed (before_end answers f c) (if s then entry else t c)) (sym e))
 
 -- one more of the blocks that hand on
 pub gather_more : {S : Type 0} (join : S → S → S) (g : ℕ → Option S) (order : List BlockId) (i : ℕ) (d : BlockId) (whole sum next new : Option S) → i < length order →

@@ -1,10 +1,10 @@
 -- helper: in no public contract
 -- What blocks hand on, by their states before terminators.
-use Rattle.std.specs.Prelude.{◌≡◌, ℕ, Bool, MatchBool, Option, None, List, if◌then◌else◌}
+use Rattle.std.specs.Prelude.{◌≡◌, ℕ, Bool, true, MatchBool, Option, None, List, if◌then◌else◌}
 use Rattle.std.specs.Option.{option_map}
 use Rattle.vfa_ir.specs.declared.operations.BlockId.{BlockId}
 use Rattle.vfa_ir.specs.declared.functions.Function.{Function}
-use Rattle.vfa_ir.specs.Walks.{IsDefinedAt, IsMissedAt}
+use Rattle.vfa_ir.specs.Walks.{is_in, successors, IsDefinedAt, IsMissedAt}
 use Rattle.vfa_cfg.specs.Heads.{is_head}
 use Rattle.vfa_cfg.specs.Order.{numbers}
 use Rattle.vfa_values.specs.Answers.{Answers}
@@ -17,9 +17,9 @@ use Rattle.vfa_walk.specs.Passes.{followed, gathered}
 use Rattle.vfa_walk.specs.Stepping.{before_end}
 use Rattle.vfa_walk.specs.Tables.{States}
 
--- the states before terminators are those that the entry states give
+-- the states before terminators are those that the entry states give, for each block that an edge leaves
 abbrev pub AreEnds : {V : Type 0} → Answers V → Function → States V → States V → Type 0
-AreEnds answers f t ends = (b : ℕ) → ends b ≡ followed (before_end answers f b) (t b)
+AreEnds answers f t ends = (b to : ℕ) → is_in to (successors f b) ≡ true → ends b ≡ followed (before_end answers f b) (t b)
 
 -- what a block hands on to another, by the states before terminators
 abbrev pub sent : {V : Type 0} → Answers V → Function → States V → ℕ → ℕ → Option (AbstractState V)

@@ -1,11 +1,12 @@
 //! What the edges of a block hand on.
 
-ghost use Rattle.std.specs.Prelude.{◌≡◌, ◌<◌, ◌≤◌, ◌^◌, ◌+◌, [], ◌∷◌, All, IfOk, IfSome, IsTrue, length, nat_eq, if◌then◌else◌, slice_get};
+ghost use Rattle.std.specs.Prelude.{◌≡◌, ◌<◌, ◌≤◌, ◌^◌, ◌+◌, [], ◌∷◌, All, IfOk, IfSome, IsTrue, length, map, nat_eq, if◌then◌else◌, slice_get};
 ghost use Rattle.std.specs.Option.{ForSome, option_map};
 ghost use Rattle.vfa_ir.specs.declared.operations.BlockId.{BlockId};
 ghost use Rattle.vfa_ir.specs.declared.operations.Ty.TheVariants.{Int};
 ghost use Rattle.vfa_ir.specs.declared.functions.Term.TheVariants.{CondBr, Switch};
 ghost use Rattle.vfa_ir.specs.PhisFit.{targets};
+ghost use Rattle.vfa_ir.specs.Walks.{is_in, successors};
 ghost use Rattle.vfa_mean.specs.Outcomes.{entry_from};
 ghost use Rattle.vfa_cfg.specs.declared.listing.Way.TheVariants.{Always, Yes, No, Other};
 ghost use Rattle.vfa_cfg.specs.Edges.{block_edges, case_edges, edge};
@@ -298,6 +299,57 @@ fn pair_from<V: Values>(
     Ok(sum)
 }
 
+fn is_one_of_two(yes: BlockId, no: BlockId, to: BlockId) -> bool
+    ensures { result ≡ is_in to.0 (yes.0 ∷ no.0 ∷ []) }
+{
+    if to == yes {
+        return true;
+    }
+    to == no
+}
+
+fn is_case_target(cases: &[(u128, BlockId)], to: BlockId) -> bool
+    ensures { result ≡ is_in to.0 (map (λ t. t.0) (map (λ c. c.1) cases.now)) }
+{
+    'cases: for case in cases {
+        if to == case.1 {
+            return true;
+        }
+    }
+    false
+}
+
+fn is_switch_target(other: BlockId, cases: &[(u128, BlockId)], to: BlockId) -> bool
+    ensures { result ≡ is_in to.0 (other.0 ∷ map (λ t. t.0) (map (λ c. c.1) cases.now)) }
+{
+    if to == other {
+        return true;
+    }
+    is_case_target(cases, to)
+}
+
+/// Whether a terminator leads to a block.
+fn is_target(term: &Term, to: BlockId) -> bool
+    ensures { result ≡ is_in to.0 (map (λ t. t.0) (targets term.now)) }
+{
+    match term {
+        Term::Ret { .. } | Term::Unreachable => false,
+        Term::Br(only) => to == *only,
+        Term::CondBr { yes, no, .. } => is_one_of_two(*yes, *no, to),
+        Term::Switch { other, cases, .. } => is_switch_target(*other, cases.as_slice(), to),
+    }
+}
+
+/// Whether an edge leads from a block to another.
+pub(crate) fn leads(f: &Function, from: BlockId, to: BlockId) -> bool
+    ensures { result ≡ is_in to.0 (successors f.now from.0) }
+{
+    match block_at(f, from) {
+        Some(block) => is_target(&block.term, to),
+        None => false,
+    }
+}
+
 /// What all edges of a block to another make of the state before its terminator; None where there is no such edge, or no
 /// run takes one.
 pub(crate) fn pair<V: Values>(
@@ -384,6 +436,25 @@ fn assigned_copy<V: Values>(
     Ok(state)
 }
 
+/// The state with the phis of this block assigned; where it has none, that is the state itself.
+fn with_phis_of<V: Values>(
+    alloc: Global,
+    f: &Function,
+    before: State<V>,
+    from: BlockId,
+    block: &Block,
+) -> Result<State<V>, AllocError>
+    requires phis { All (IsReadyPhi f.now) block.now.phis }
+    requires state { IsStateOf V.ty V.proper f.now before }
+    ensures change { IfOk result (λ s. known s ≡ assigned V.answers f.now from.0 (known before) block.now.phis (known before)) }
+    ensures state { IfOk result (IsStateOf V.ty V.proper f.now) }
+{
+    if block.phis.as_slice().is_empty() {
+        return Ok(before);
+    }
+    assigned_copy(alloc, f, &before, from, block)
+}
+
 /// Assigns all phis of a block that is entered from another.
 fn assign_all<V: Values>(
     alloc: Global,
@@ -398,7 +469,7 @@ fn assign_all<V: Values>(
     ensures state { IfOk result (IsStateOf V.ty V.proper f.now) }
 {
     match block_at(f, to) {
-        Some(block) => assigned_copy(alloc, f, &before, from, block),
+        Some(block) => with_phis_of(alloc, f, before, from, block),
         None => Ok(before),
     }
 }

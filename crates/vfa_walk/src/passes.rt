@@ -1,9 +1,9 @@
 //! Passes of states through the blocks.
 
-ghost use Rattle.std.specs.Prelude.{◌≡◌, ◌<◌, ◌≤◌, ◌^◌, ℕ, Bool, List, IfOk, MatchBool, length, nat_eq, if◌then◌else◌, slice_index_or};
+ghost use Rattle.std.specs.Prelude.{◌≡◌, ◌<◌, ◌≤◌, ◌^◌, ℕ, Bool, List, IfOk, MatchBool, length, nat_eq, if◌then◌else◌, slice_index_or, true};
 ghost use Rattle.std.specs.Option.{ForSome, option_map};
 ghost use Rattle.vfa_ir.specs.declared.operations.BlockId.{BlockId};
-ghost use Rattle.vfa_ir.specs.Walks.{IsDefinedAt, IsMissedAt};
+ghost use Rattle.vfa_ir.specs.Walks.{is_in, successors, IsDefinedAt, IsMissedAt};
 ghost use Rattle.vfa_mean.specs.Outcomes.{first_block, has_noundef, type_of};
 ghost use Rattle.vfa_cfg.specs.Heads.{is_head};
 ghost use Rattle.vfa_cfg.specs.Order.{IsOrder, numbers};
@@ -20,11 +20,12 @@ ghost use Rattle.vfa_walk.specs.Stepping.{before_end};
 
 use crate::definitions::has_noundef;
 use crate::joining::{merge, take_over};
-use crate::leaving::hand_on;
+use crate::leaving::{hand_on, leads};
 use crate::pairs::end_of;
 use crate::ready::ready;
 use crate::tables::Table;
 use std::alloc::{AllocError, Global};
+use vfa_cfg::successor;
 use vfa_check::Checked;
 use vfa_cond::State;
 use vfa_ir::{BlockId, Function, Items, Param, Ty, ValueId};
@@ -145,6 +146,9 @@ fn sent<V: Values>(
     ensures sent { IfOk result (λ o. option_map known o ≡ sent V.answers f.now (kept_entries ends.now) to.0 from.0) }
     ensures state { IfOk result (λ o. ForSome o (IsStateOf V.ty V.proper f.now)) }
 {
+    if !leads(f, from, to) {
+        return Ok(None);
+    }
     match ends.entry(from) {
         Some(end) => hand_on(alloc, f, end, from, to),
         None => Ok(None),
@@ -240,7 +244,7 @@ fn entry_of<V: Values>(
 }
 
 /// The state before the terminator of a block, by its entry state.
-fn end_entry<V: Values>(
+fn stepped<V: Values>(
     alloc: Global,
     f: &Function,
     b: BlockId,
@@ -257,7 +261,27 @@ fn end_entry<V: Values>(
     }
 }
 
-/// What a pass has found: the entry states, and the states before terminators.
+/// The state before the terminator of a block that an edge leaves, by its entry state; none is made of another block.
+fn end_entry<V: Values>(
+    alloc: Global,
+    f: &Function,
+    b: BlockId,
+    entry: &Option<State<V>>,
+) -> Result<Option<State<V>>, AllocError>
+    requires ready { IsReady f.now }
+    requires entry { ForSome entry.now (IsStateOf V.ty V.proper f.now) }
+    ensures end { IfOk result (λ o. (to : ℕ) → is_in to (successors f.now b.0) ≡ true →
+        option_map known o ≡ followed (before_end V.answers f.now b.0) (option_map known entry.now)) }
+    ensures state { IfOk result (λ o. ForSome o (IsStateOf V.ty V.proper f.now)) }
+{
+    let Some(_) = successor(f, b, 0) else {
+        return Ok(None);
+    };
+    let end = stepped(alloc, f, b, entry)?;
+    Ok(end)
+}
+
+/// What a pass has found: the entry states, and the states before the terminators of blocks that edges leave.
 #[derive(Drop)]
 struct Found<V: Values> {
     table: Table<V>,

@@ -25,7 +25,7 @@ order-init g c =
     let empty = funext (λ (b : ℕ). kept_nothing c.in_ok-table.table b c.in_ok-table.ensures.none) in
     record {
       rest = λ names _ b. ap (λ t. go_through (flow_of answers f (layout c.args.order.now names)) (kept_in_order c.args.order.now c.args.heads.now) (numbers c.args.order.now) t b) empty;
-      ends = λ b. kept_nothing c.in_ok-ends.ends b c.in_ok-ends.ensures.none ∙ sym (ap (followed (before_end answers f b)) (kept_nothing c.in_ok-table.table b c.in_ok-table.ensures.none));
+      ends = λ b _ _. kept_nothing c.in_ok-ends.ends b c.in_ok-ends.ensures.none ∙ sym (ap (followed (before_end answers f b)) (kept_nothing c.in_ok-table.table b c.in_ok-table.ensures.none));
       table_states = none_states g.V.Values.ty g.V.Values.proper f c.in_ok-table.table c.in_ok-table.ensures.none;
       end_states = none_states g.V.Values.ty g.V.Values.proper f c.in_ok-ends.ends c.in_ok-ends.ensures.none;
       table_count = c.in_ok-table.ensures.count ∙ ap length c.as_slice-count.ensures;
