@@ -40,6 +40,7 @@ mod MarkedLines
 mod NamesUsed
 mod NarrowedDivisions
 mod Narrowing
+mod NarrowingReads
 mod Noting
 mod Numbered
 mod OneFunction
@@ -56,6 +57,11 @@ pub mod PrintedNumbers
 mod PutOperands
 mod Ranges
 mod Reaching
+mod ReadChanges
+mod ReadFindings
+mod ReadMarks
+mod ReadOperands
+mod ReadStates
 mod SpreadLaws
 pub mod Stepped
 pub mod SteppedNumbers

@@ -1,6 +1,6 @@
 //! Laws of rewriting.
 
-ghost use Rattle.std.specs.Prelude.{ℕ, ◌≡◌, ◌≤◌, ◌^◌, length};
+ghost use Rattle.std.specs.Prelude.{ℕ, ◌≡◌, ◌≤◌, ◌^◌, ◌↔◌, length};
 ghost use Rattle.vfa_ir.specs.declared.functions.Function.{Function};
 ghost use Rattle.vfa_ir.specs.declared.operations.Operand.{Operand};
 ghost use Rattle.vfa_ir.specs.declared.operations.Ty.{Ty};
@@ -13,6 +13,7 @@ ghost use Rattle.vfa_mean.specs.Refines.{Refines};
 ghost use Rattle.vfa_check.specs.Checked.{IsChecked};
 ghost use Rattle.vfa_walk.specs.Tables.{IsTableOf, IsTrueTable};
 ghost use Rattle.vfa_walk.specs.TruthLaws.{HasTypedFacts};
+ghost use Rattle.vfa_walk.specs.TruthReads.{AgreeWhereRead};
 ghost use Rattle.vfa_xfer.specs.AnyFacts.{HoldsOf, IsAnyFact, fact_type};
 ghost use Rattle.vfa_xfer.specs.Transfers.{fact_answers};
 ghost use Rattle.vfa_rewrite.specs.Alike.{LeaveTheSame};
@@ -81,6 +82,13 @@ pub fn marks_are_one()
 pub fn one_rewritten()
     ensures { (f : Function) (t : FactTable) (g g' : Function) → IsChecked f → IsPrintable f →
         HasTypedFacts fact_type IsAnyFact f t → IsRewritten f t g → IsRewritten f t g' → g ≡ g' }
+{}
+
+/// Rewriting a checked function depends on the names that are read alone: by two tables that have states for the same blocks, and
+/// say the same of these names at each block, it gives the same. At a block they are the names that its instructions, its
+/// terminator and the phis behind its edges use, what may stand in the place of such a name, and what narrowing follows from these.
+pub fn rewriting_is_one_by_read_names()
+    ensures { (f g : Function) (t u : FactTable) → IsChecked f → AgreeWhereRead f t u → (IsRewritten f t g ↔ IsRewritten f u g) }
 {}
 
 /// An operand becomes what is found by following the operands that take its place, at each place that some walk comes to and

@@ -29,6 +29,7 @@ mod widths;
 pub use laws::{
     chains_end, findings_are_true, findings_fit, fitting_marks_leave_checked, marks_are_one,
     marks_are_sound, numbers_are_printed, one_rewritten, rewriting_by_facts_refines,
-    rewriting_by_the_table_refines, rewriting_refines, rewritten_is_checked,
+    rewriting_by_the_table_refines, rewriting_is_one_by_read_names, rewriting_refines,
+    rewritten_is_checked,
 };
 pub use rewriting::rewrite;

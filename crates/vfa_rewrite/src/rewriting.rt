@@ -6,7 +6,10 @@ ghost use Rattle.vfa_mean.specs.Refines.{Refines};
 ghost use Rattle.vfa_walk.specs.Kept.{AreStates, kept_entries};
 ghost use Rattle.vfa_walk.specs.Ready.{IsReady};
 ghost use Rattle.vfa_walk.specs.Tables.{IsTrueTable};
+ghost use Rattle.vfa_walk.specs.TruthLaws.{HasTypedFacts};
+ghost use Rattle.vfa_walk.specs.TruthReads.{AgreeWhereRead};
 ghost use Rattle.vfa_xfer.specs.AnyFacts.{HoldsOf, IsAnyFact, fact_type};
+ghost use Rattle.vfa_rewrite.specs.ByFacts.{FactTable};
 ghost use Rattle.vfa_rewrite.specs.Remains.{AreRemains};
 ghost use Rattle.vfa_rewrite.specs.Rewriting.{IsRewritten};
 ghost use Rattle.vfa_rewrite.specs.Sizes.{IsLittleLarger};
@@ -78,7 +81,8 @@ fn what_is_left(
 ///   goes. Values, blocks and calls are numbered in text order.
 ///
 /// For a true table, as that of `vfa_solve::solve`, the result refines the function, calls as events included. For any other it is
-/// a function that the check accepts. It has at most four values for each one of the function, no more blocks, and no block with
+/// a function that the check accepts. A table may stand in place of another that has states for the same blocks and says the same
+/// of the names that rewriting reads (`rewriting_is_one_by_read_names`). The result has at most four values for each one of the function, no more blocks, and no block with
 /// more edges than the widest one had. An error says that memory was wanting.
 ///
 /// Of `%a = and i8 %x, 15`, `%b = and i8 %a, -16`, `%r = call i8 @g(i8 %b)`, `ret i8 %b` the lines `%r = call i8 @g(i8 0)` and
@@ -89,6 +93,9 @@ pub fn rewrite(alloc: Global, f: &Checked, table: &Table<AnyFact>) -> Result<Che
     ensures rewritten { IfOk result (IsRewritten f.now (kept_entries table.now)) }
     ensures little_larger { IfOk result (IsLittleLarger f.now) }
     ensures refines { IsTrueTable HoldsOf f.now (kept_entries table.now) → IfOk result (Refines f.now) }
+    ensures by_read_names { (t : FactTable) → AgreeWhereRead f.now t (kept_entries table.now) → IfOk result (IsRewritten f.now t) }
+    ensures refines_by_read_names { (t : FactTable) → HasTypedFacts fact_type IsAnyFact f.now t → IsTrueTable HoldsOf f.now t →
+        AgreeWhereRead f.now t (kept_entries table.now) → IfOk result (Refines f.now) }
 {
     fit_is_printable();
     rewritten_is_checked();

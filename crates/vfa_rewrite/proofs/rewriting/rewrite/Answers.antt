@@ -9,6 +9,7 @@ use Rattle.vfa_xfer.specs.AnyFacts.{fact_type, IsAnyFact}
 use Rattle.vfa_rewrite.specs.Remains.{AreRemains}
 use Rattle.vfa_rewrite.specs.Rewriting.{IsRewritten}
 use Rattle.vfa_rewrite.specs.Sizes.{IsLittleLarger}
+use Rattle.vfa_rewrite.proofs.ReadMarks.{agree_turned, marks_still, rewritten_still}
 use Rattle.vfa_rewrite.proofs.TableFacts.{typed_facts}
 use Rattle.vfa_rewrite.proofs.TableMarks.{left_may_be_numbered, left_defines_once, left_has_few, left_is_rewritten}
 use Rattle.vfa_rewrite.proofs.rewriting.rewrite.Goals as goal
@@ -92,6 +93,26 @@ returns-clause-refines c is_true =
     let first : Refines f c.in_ok-left.left.function =
     subst (Refines f) (sym left.function)
     (c.rewriting_by_facts_refines.ensures f t left.marks checked (c.fit_is_printable.ensures f checked.fit) (typed_facts f c.args.table.now c.requires.states) is_true left.are_marks) in
+    let whole : Refines f c.in_ok-numbered.numbered =
+    c.refinement_is_a_preorder.ensures.transitive f c.in_ok-left.left.function c.in_ok-numbered.numbered first c.in_ok-numbered.ensures.refines in
+    IfOk-weaker c.checked_again.result _ _ (λ (g : Function) (same : g ≡ c.in_ok-numbered.numbered). subst (Refines f) (sym same) whole) c.checked_again.ensures
+
+pub returns-clause-by_read_names : goal.returns-clause-by_read_names
+returns-clause-by_read_names c t agree =
+    let f = c.args.f.now in
+    let kept = kept_entries c.args.table.now in
+    let checked : IsChecked f = subst IsChecked c.ready.ensures.same c.ready.ensures.checked in
+    IfOk-weaker c.checked_again.result _ _ (λ (g : Function) (is : IsRewritten f kept g). rewritten_still f checked kept t (agree_turned f checked t kept agree) g is) (returns-clause-rewritten c)
+
+pub returns-clause-refines_by_read_names : goal.returns-clause-refines_by_read_names
+returns-clause-refines_by_read_names c t typed is_true agree =
+    let f = c.args.f.now in
+    let kept = kept_entries c.args.table.now in
+    let checked : IsChecked f = subst IsChecked c.ready.ensures.same c.ready.ensures.checked in
+    let left : AreRemains f kept c.in_ok-left.left = subst (λ g. AreRemains g kept c.in_ok-left.left) c.ready.ensures.same c.in_ok-left.ensures in
+    let marks = marks_still f checked kept t (agree_turned f checked t kept agree) left.marks left.are_marks in
+    let first : Refines f c.in_ok-left.left.function =
+    subst (Refines f) (sym left.function) (c.rewriting_by_facts_refines.ensures f t left.marks checked (c.fit_is_printable.ensures f checked.fit) typed is_true marks) in
     let whole : Refines f c.in_ok-numbered.numbered =
     c.refinement_is_a_preorder.ensures.transitive f c.in_ok-left.left.function c.in_ok-numbered.numbered first c.in_ok-numbered.ensures.refines in
     IfOk-weaker c.checked_again.result _ _ (λ (g : Function) (same : g ≡ c.in_ok-numbered.numbered). subst (Refines f) (sym same) whole) c.checked_again.ensures
