@@ -3,7 +3,6 @@ pub mod BestRows
 pub mod FirstUses
 pub mod LineTexts
 pub mod NameLines
-pub mod NarrowingReads
 pub mod ReportReads
 pub mod ReportTexts
 pub mod ReportTrue

@@ -33,7 +33,7 @@ use Rattle.vfa_walk.proofs.TruthBlocks.{after_more}
 use Rattle.vfa_report.specs.Reads.{uses_in, IsReported, AgreeWhereReported}
 use Rattle.vfa_report.specs.Report.{Known, ReportLine, known_at, parameter_lines, used_lines, phi_lines, result_lines, inst_lines, block_lines, lines_from, line_text, report_text}
 use Rattle.vfa_report.specs.Uses.{first_uses, names_in}
-use Rattle.vfa_report.proofs.NarrowingReads.{IsAmong, AreAmong, are_among_more, operands_among, IsClosed, closed_self, if_agree, then_agree, with_fact_agree, operand_agrees, narrowed_agrees}
+use Rattle.vfa_walk.proofs.NarrowingReads.{IsAmong, AreAmong, are_among_more, operands_among, IsClosed, closed_self, if_agree, then_agree, with_fact_agree, operand_agrees, narrowed_agrees}
 
 -- ---- lists
 

@@ -40,7 +40,6 @@ mod MarkedLines
 mod NamesUsed
 mod NarrowedDivisions
 mod Narrowing
-mod NarrowingReads
 mod Noting
 mod Numbered
 mod OneFunction

@@ -31,7 +31,7 @@ use Rattle.vfa_rewrite.specs.ByFacts.{FactState, FactTable, fact_state, decision
 use Rattle.vfa_rewrite.specs.Findings.{operation_of}
 use Rattle.vfa_rewrite.specs.Marks.{IsReplaced}
 use Rattle.vfa_rewrite.proofs.Becoming.{names_a, names_b}
-use Rattle.vfa_rewrite.proofs.NarrowingReads.{IsAmong, among_more, AreAmong, are_among_more, operands_among}
+use Rattle.vfa_walk.proofs.NarrowingReads.{IsAmong, among_more, AreAmong, are_among_more, operands_among}
 use Rattle.vfa_rewrite.proofs.ReadChanges.{CallIsAll, Stays, HasItsCall, all_stay}
 use Rattle.vfa_rewrite.proofs.ReadOperands.{among_named, AreAllAmong, operands_named, IsOperandAt, used_operand, further, operand_is_read}
 use Rattle.vfa_rewrite.proofs.ReadStates.{fact_of_same}

@@ -30,7 +30,7 @@ use Rattle.vfa_rewrite.specs.Rewriting.{IsRewritten}
 use Rattle.vfa_rewrite.specs.Rewritten.{Marks, with_operands, edges_from, if_reached, edges_of, rewritten}
 use Rattle.vfa_rewrite.proofs.BlocksLeft.{from_get}
 use Rattle.vfa_rewrite.proofs.MarkedBlocks.{at_all}
-use Rattle.vfa_rewrite.proofs.NarrowingReads.{IsAmong}
+use Rattle.vfa_walk.proofs.NarrowingReads.{IsAmong}
 use Rattle.vfa_rewrite.proofs.PhisLeft.{get_within, one_of_pairs}
 use Rattle.vfa_rewrite.proofs.ReadFindings.{change_alike, undefined_alike, decision_alike, line_among, worked_among, replaced_among}
 use Rattle.vfa_rewrite.proofs.ReadOperands.{among_named, AreAllAmong, term_named, IsOperandAt, used_operand, block_reads}

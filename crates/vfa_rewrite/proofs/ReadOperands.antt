@@ -19,7 +19,7 @@ use Rattle.vfa_cond.specs.Narrowing.{deepest}
 use Rattle.vfa_walk.specs.TruthReads.{Mentions, IsUsedAt, may_give_way, StandsFor, Follows, IsReadAt}
 use Rattle.vfa_xfer.specs.Transfers.{fact_answers}
 use Rattle.vfa_rewrite.specs.Marks.{term_operands}
-use Rattle.vfa_rewrite.proofs.NarrowingReads.{IsAmong, AreAmong, are_among_more, operands_among, IsClosed}
+use Rattle.vfa_walk.proofs.NarrowingReads.{IsAmong, AreAmong, are_among_more, operands_among, IsClosed}
 use Rattle.vfa_rewrite.proofs.ReadStates.{AllRead, all_read, TermReads, BlockReads}
 
 -- ---- operands by their names

@@ -27,7 +27,7 @@ use Rattle.vfa_walk.specs.Leaving.{told_no_case, told_case, along_way, along_edg
 use Rattle.vfa_walk.specs.Passes.{merged, followed}
 use Rattle.vfa_walk.specs.Stepping.{fact_of, sides_type, third_type, transferred, result_fact, mentions, ended, redefined, with_result, is_division, told, survived, after_inst, after_insts, insts_of, before_line, before_end}
 use Rattle.vfa_walk.specs.TruthReads.{AgreeOn, EntriesAgree}
-use Rattle.vfa_rewrite.proofs.NarrowingReads.{IsAmong, AreAmong, are_among_more, IsClosed, closed_self, if_agree, then_agree, with_fact_agree, operand_agrees, narrowed_agrees}
+use Rattle.vfa_walk.proofs.NarrowingReads.{IsAmong, AreAmong, are_among_more, IsClosed, closed_self, if_agree, then_agree, with_fact_agree, operand_agrees, narrowed_agrees}
 use Rattle.vfa_walk.proofs.TruthBlocks.{after_more}
 
 -- ---- instructions

@@ -12,6 +12,7 @@ pub mod Listed
 pub mod LiteralsFit
 pub mod LoopFree
 pub mod Marking
+pub mod NarrowingReads
 pub mod Nexts
 pub mod Over
 pub mod PassEquations
