@@ -11,7 +11,32 @@ use std::alloc::{AllocError, Global};
 use vfa_check::Checked;
 use vfa_values::Values;
 use vfa_walk::truth::{table_has_shape, table_is_true};
-use vfa_walk::{Marks, Table, pass};
+use vfa_walk::{Marks, Table, pass, table_without_loops};
+
+/// The table of a function by rounds, until one changes nothing.
+fn table_by_rounds<V: Values>(alloc: Global, f: &Checked) -> Result<Table<V>, AllocError>
+    ensures table { IfOk result (λ t. IsTableOf V.answers f.now (kept_entries t)) }
+    ensures states { IfOk result (λ t. AreStates V.ty V.proper f.now t) }
+    ensures count { IfOk result (λ t. length t ≡ length f.now.blocks) }
+{
+    let order = f.order();
+    let marks = Marks::of(alloc, f)?;
+    let next = last_next(alloc, f, order, &marks)?;
+    let passed = pass(alloc, f, next.as_slice())?;
+    Ok(passed.table)
+}
+
+/// The table of a function. Without loops one pass gives it, and no landmarks are asked for.
+fn table_of<V: Values>(alloc: Global, f: &Checked) -> Result<Table<V>, AllocError>
+    ensures table { IfOk result (λ t. IsTableOf V.answers f.now (kept_entries t)) }
+    ensures states { IfOk result (λ t. AreStates V.ty V.proper f.now t) }
+    ensures count { IfOk result (λ t. length t ≡ length f.now.blocks) }
+{
+    match table_without_loops(alloc, f)? {
+        Some(table) => Ok(table),
+        None => table_by_rounds(alloc, f),
+    }
+}
 
 /// The table of a function: the entry state of each block, its phis done; none for a block to which no run comes.
 ///
@@ -34,9 +59,6 @@ pub fn solve<V: Values>(alloc: Global, f: &Checked) -> Result<Table<V>, AllocErr
     was_checked(f);
     table_is_true::<V>();
     table_has_shape::<V>();
-    let order = f.order();
-    let marks = Marks::of(alloc, f)?;
-    let next = last_next(alloc, f, order, &marks)?;
-    let passed = pass(alloc, f, next.as_slice())?;
-    Ok(passed.table)
+    let table = table_of(alloc, f)?;
+    Ok(table)
 }
