@@ -5,6 +5,7 @@ mod Joining
 mod Monotone
 mod Nothing
 mod Parts
+mod PutDefinitions
 mod PutNames
 mod Searched
 mod Searching

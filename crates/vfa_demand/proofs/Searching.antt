@@ -21,7 +21,7 @@ nothing_taken marks ahead = record {
   from = λ v t. inl t;
 }
 
-only : (v n : ℕ) → is_in v (n ∷ []) ≡ true → v ≡ n
+pub only : (v n : ℕ) → is_in v (n ∷ []) ≡ true → v ≡ n
 only v n t = elim (first_or_rest v n [] t) [ inl e ↦ e | inr u ↦ absurd (cc) ]
 
 pub taken_before : (n : ℕ) (marks : List Bool) (ahead : List ℕ) → is_marked marks n ≡ true → AreTaken (n ∷ []) marks marks ahead ahead
@@ -204,16 +204,16 @@ less_room m0 m1 a a0 a1 names n split step = omega (arith, step.room, ap length 
 
 -- ---- a number that was taken off those ahead
 
+pub marked_within : (marks : List Bool) (n : ℕ) → is_marked marks n ≡ true → n < length marks
+marked_within [] n t = absurd (cc)
+marked_within (m ∷ marks) zero t = omega arith
+marked_within (m ∷ marks) (suc n) t = let l = marked_within marks n t in omega (arith, l)
+
 pub below_marks : (first : List ℕ) (leads : List (List ℕ)) (marks : List Bool) (a a0 : List ℕ) (n : ℕ) → a ≡ a0 ++ (n ∷ []) → IsSearch first leads marks a → n < length leads
 below_marks first leads marks a a0 n split was =
     let marked : is_marked marks n ≡ true =
     was.met n (subst (λ l. is_in n l ≡ true) (sym split) (in_right n a0 (n ∷ []) (in_first n n [] refl))) in
-    let l = within marks n marked in omega (arith, l, was.whole)
-  where
-    within : (marks : List Bool) (n : ℕ) → is_marked marks n ≡ true → n < length marks
-    within [] n t = absurd (cc)
-    within (m ∷ marks) zero t = omega arith
-    within (m ∷ marks) (suc n) t = let l = within marks n t in omega (arith, l)
+    let l = marked_within marks n marked in omega (arith, l, was.whole)
 
 pub names_at : (leads : List (List ℕ)) (n : ℕ) (here names : List ℕ) → n < length leads → here ≡ get_or leads n here → names ≡ here → names ≡ get_or leads n []
 names_at leads n here names l is same = same ∙ is ∙ get_or_default leads n here [] l

@@ -1,4 +1,5 @@
 pub mod Behind
+pub mod Definitions
 pub mod Masks
 pub mod Needed
 pub mod Reach

@@ -1,14 +1,17 @@
-//! Masks that grow by what uses ask for.
+//! Masks that grow by what uses ask for, and the names that wait for their definitions to be asked.
 
-ghost use Rattle.std.specs.Prelude.{◌≡◌, All, IfSome, bit_or, flat_map, length, slice_get};
+ghost use Rattle.std.specs.Prelude.{◌≡◌, ◌<◌, ◌≤◌, ℕ, [], true, All, IfOk, bit_or, flat_map, length, replicate};
 ghost use Rattle.vfa_demand.specs.Masks as masks;
-ghost use Rattle.vfa_demand.specs.Masks.{Have, ask_of, block_asks, inst_asks, mask_in, phi_asks, result_mask, seen_in, whole_asks};
-ghost use Rattle.vfa_demand.specs.Steps.{IsStep, entry_asks, place_asks};
-ghost use Rattle.vfa_demand.specs.Usable.{IsNameBelow, IsUsable, IsUsableBlock, IsUsableInst, IsUsablePhi};
+ghost use Rattle.vfa_demand.specs.Masks.{ask_of, mask_in, operand_asks, result_mask, seen_in, whole_asks};
+ghost use Rattle.vfa_demand.specs.Steps.{IsPutAhead, IsSearched, IsStep, block_root_asks, definition_asks, left_of, line_asks_at, phi_asks_at, place_asks, root_asks};
+ghost use Rattle.vfa_demand.specs.Usable.{AreUsable, IsNameBelow, IsUsable, IsUsableBlock, IsUsableInst, IsUsablePhi};
 ghost use Rattle.vfa_ir.specs.Operands.{operands_of};
+ghost use Rattle.vfa_ir.specs.Words.{is_in};
 
-use crate::rows::{all_bits, asked};
-use vfa_ir::{Block, Function, Inst, Op, Operand, Phi, Term, Ty, ValueId, operand};
+use crate::definitions::Definition;
+use crate::rows::{all_bits, asked, needs_all};
+use std::alloc::{AllocError, Global};
+use vfa_ir::{Block, BlockId, Function, Inst, Op, Operand, Phi, Term, Ty, ValueId, operand};
 
 /// The width of a number, and of the number of a pair: 1 to 128. Of `{ i8, i1 }` it is 8.
 pub fn number_width(ty: Ty) -> u32
@@ -41,14 +44,40 @@ fn both(mask: u128, more: u128) -> u128
     mask | more
 }
 
-/// Masks that grow, and whether one did.
+/// All names, in order.
+fn all_names(alloc: Global, count: usize) -> Result<Vec<usize>, AllocError>
+    ensures all { IfOk result (λ names. (v : ℕ) → v < count → is_in v names.items ≡ true) }
+    ensures within { IfOk result (λ names. (v : ℕ) → is_in v names.items ≡ true → v < count) }
+{
+    let mut names: Vec<usize> = Vec::with_capacity(alloc, count)?;
+    'each: for name in 0..count {
+        names.push(name)?;
+    }
+    Ok(names)
+}
+
+/// Masks that grow, and the names whose definitions are still to be asked, each once.
 #[derive(Drop)]
 pub(crate) struct Growing {
     pub(crate) bits: Vec<u128>,
-    pub(crate) grew: bool,
+    pub(crate) waits: Vec<bool>,
+    pub(crate) ahead: Vec<usize>,
 }
 
 impl Growing {
+    /// Masks of no bits. All names wait, the last one at the front, since most names are used after their definition.
+    pub(crate) fn new(alloc: Global, count: usize) -> Result<Growing, AllocError>
+        ensures bits { IfOk result (λ growing. growing.bits.items ≡ replicate count 0) }
+        ensures waits { IfOk result (λ growing. growing.waits.items ≡ replicate count true) }
+        ensures all { IfOk result (λ growing. (v : ℕ) → v < count → is_in v growing.ahead.items ≡ true) }
+        ensures within { IfOk result (λ growing. (v : ℕ) → is_in v growing.ahead.items ≡ true → v < count) }
+    {
+        let bits = vec![in alloc; 0; count]?;
+        let waits = vec![in alloc; true; count]?;
+        let ahead = all_names(alloc, count)?;
+        Ok(Growing { bits, waits, ahead })
+    }
+
     /// The mask of a value.
     pub(crate) fn mask(&self, value: ValueId) -> u128
         ensures { result ≡ mask_in self.now.bits.items value.0 }
@@ -56,43 +85,71 @@ impl Growing {
         self.bits.get(value.0 as usize).copied().unwrap_or(0)
     }
 
+    /// Puts a name to those that wait.
+    fn put(&mut self, name: usize) -> Result<(), AllocError>
+        requires { name < length self.old.waits.items }
+        ensures bits { self.new.bits.items ≡ self.old.bits.items }
+        ensures put { IfOk result (λ _. IsPutAhead name self.old.waits.items self.new.waits.items self.old.ahead.items self.new.ahead.items) }
+    {
+        if self.waits[name] {
+            return Ok(());
+        }
+        self.waits[name] = true;
+        self.ahead.push(name)?;
+        Ok(())
+    }
+
     /// Takes in that these bits of an operand are asked for.
-    pub(crate) fn ask(&mut self, operand: Operand, bits: u128)
-        requires { IsNameBelow (length self.old.bits.items) operand }
-        ensures { IsStep (Have (ask_of bits operand)) self.old.bits.items self.new.bits.items self.old.grew self.new.grew }
+    fn ask(&mut self, operand: Operand, bits: u128) -> Result<(), AllocError>
+        requires names { length self.old.waits.items ≡ length self.old.bits.items }
+        requires below { IsNameBelow (length self.old.bits.items) operand }
+        ensures { IfOk result (λ _. IsStep (ask_of bits operand)
+            self.old.bits.items self.new.bits.items self.old.waits.items self.new.waits.items self.old.ahead.items self.new.ahead.items) }
     {
         let Operand::Value(value) = operand else {
-            return;
+            return Ok(());
         };
-        let old = self.bits[value.0 as usize];
+        let name = value.0 as usize;
+        let old = self.bits[name];
         let new = both(old, bits);
         if new == old {
-            return;
+            return Ok(());
         }
-        self.bits[value.0 as usize] = new;
-        self.grew = true;
+        self.bits[name] = new;
+        self.put(name)
     }
 
     /// Takes in what the operand of this place of an operation asks for, where the result has this mask.
-    fn ask_place(&mut self, f: &Function, op: &Op, place: usize, mask: u128)
-        requires { All (IsUsable (length self.old.bits.items)) (operands_of f.now op.now) }
-        ensures { IsStep (Have (place_asks f.now op.now place mask)) self.old.bits.items self.new.bits.items self.old.grew self.new.grew }
+    fn ask_place(
+        &mut self,
+        f: &Function,
+        op: &Op,
+        place: usize,
+        mask: u128,
+    ) -> Result<(), AllocError>
+        requires names { length self.old.waits.items ≡ length self.old.bits.items }
+        requires usable { All (IsUsable (length self.old.bits.items)) (operands_of f.now op.now) }
+        ensures { IfOk result (λ _. IsStep (place_asks f.now op.now place mask)
+            self.old.bits.items self.new.bits.items self.old.waits.items self.new.waits.items self.old.ahead.items self.new.ahead.items) }
     {
-        if let Some((ty, operand)) = operand(f, op, place) {
-            self.ask(operand, asked(op, number_width(ty), place, mask));
+        match operand(f, op, place) {
+            Some((ty, operand)) => self.ask(operand, asked(op, number_width(ty), place, mask)),
+            None => Ok(()),
         }
     }
 
     /// Takes in what the terminator of a block asks for.
-    fn ask_terminator(&mut self, term: &Term)
-        requires { All (IsUsable (length self.old.bits.items)) (seen_in term.now) }
-        ensures { IsStep (Have (whole_asks (seen_in term.now))) self.old.bits.items self.new.bits.items self.old.grew self.new.grew }
+    fn ask_terminator(&mut self, term: &Term) -> Result<(), AllocError>
+        requires names { length self.old.waits.items ≡ length self.old.bits.items }
+        requires usable { All (IsUsable (length self.old.bits.items)) (seen_in term.now) }
+        ensures { IfOk result (λ _. IsStep (whole_asks (seen_in term.now))
+            self.old.bits.items self.new.bits.items self.old.waits.items self.new.waits.items self.old.ahead.items self.new.ahead.items) }
     {
         match term {
             Term::Ret { width, a } => self.ask(*a, all_bits(*width)),
             Term::CondBr { c, .. } => self.ask(*c, all_bits(1)),
             Term::Switch { width, on, .. } => self.ask(*on, all_bits(*width)),
-            Term::Br(_) | Term::Unreachable => {}
+            Term::Br(_) | Term::Unreachable => Ok(()),
         }
     }
 
@@ -106,112 +163,139 @@ impl Growing {
         }
     }
 
-    /// Takes in what the operands of an instruction ask for.
-    fn ask_instruction(&mut self, f: &Function, instruction: &Inst)
-        requires { IsUsableInst f.now (length self.old.bits.items) instruction.now }
-        ensures { IsStep (λ m. Have (inst_asks f.now m instruction.now) m) self.old.bits.items self.new.bits.items self.old.grew self.new.grew }
+    /// Takes in what the operands of an operation ask for, where the result has this mask.
+    fn ask_operands(&mut self, f: &Function, op: &Op, mask: u128) -> Result<(), AllocError>
+        requires names { length self.old.waits.items ≡ length self.old.bits.items }
+        requires usable { All (IsUsable (length self.old.bits.items)) (operands_of f.now op.now) }
+        ensures { IfOk result (λ _. IsStep (operand_asks op.now mask 0 (operands_of f.now op.now))
+            self.old.bits.items self.new.bits.items self.old.waits.items self.new.waits.items self.old.ahead.items self.new.ahead.items) }
     {
-        let mask = self.result_mask(instruction);
-        for place in 0..operand_count(f, &instruction.op) {
-            self.ask_place(f, &instruction.op, place, mask);
+        'each: for place in 0..operand_count(f, op) {
+            self.ask_place(f, op, place, mask)?;
         }
+        Ok(())
     }
 
-    /// Takes in that the operand of this place of a phi has all that its result has.
-    fn ask_entry(&mut self, phi: &Phi, place: usize, mask: u128)
-        requires { IsUsablePhi (length self.old.bits.items) phi.now }
-        ensures { IsStep (Have (entry_asks phi.now place mask)) self.old.bits.items self.new.bits.items self.old.grew self.new.grew }
+    /// Takes in that operands have all that the result of their phi has.
+    fn ask_entries(&mut self, entries: &[(Operand, BlockId)], mask: u128) -> Result<(), AllocError>
+        requires names { length self.old.waits.items ≡ length self.old.bits.items }
+        requires below { All (λ e. IsNameBelow (length self.old.bits.items) e.0) entries.now }
+        ensures { IfOk result (λ _. IsStep (flat_map (λ e. ask_of mask e.0) entries.now)
+            self.old.bits.items self.new.bits.items self.old.waits.items self.new.waits.items self.old.ahead.items self.new.ahead.items) }
     {
-        if let Some(entry) = phi.entries.as_slice().get(place) {
-            self.ask(entry.0, mask);
+        'each: for entry in entries {
+            self.ask(entry.0, mask)?;
         }
+        Ok(())
     }
 
-    /// Takes in what the operands of a phi ask for.
-    fn ask_phi(&mut self, phi: &Phi)
-        requires { IsUsablePhi (length self.old.bits.items) phi.now }
-        ensures { IsStep (λ m. Have (phi_asks m phi.now) m) self.old.bits.items self.new.bits.items self.old.grew self.new.grew }
+    /// Takes in what the phi of this place asks for.
+    fn ask_phi_at(&mut self, phis: &[Phi], place: usize) -> Result<(), AllocError>
+        requires names { length self.old.waits.items ≡ length self.old.bits.items }
+        requires usable { All (IsUsablePhi (length self.old.bits.items)) phis.now }
+        ensures { IfOk result (λ _. IsStep (phi_asks_at (mask_in self.old.bits.items) phis.now place)
+            self.old.bits.items self.new.bits.items self.old.waits.items self.new.waits.items self.old.ahead.items self.new.ahead.items) }
     {
-        let mask = self.mask(phi.result);
-        for place in 0..phi.entries.as_slice().len() {
-            self.ask_entry(phi, place, mask);
+        match phis.get(place) {
+            Some(phi) => self.ask_entries(phi.entries.as_slice(), self.mask(phi.result)),
+            None => Ok(()),
         }
     }
 
     /// Takes in what the instruction of this place asks for.
-    fn ask_instruction_at(&mut self, f: &Function, instructions: &[Inst], place: usize)
-        requires { All (IsUsableInst f.now (length self.old.bits.items)) instructions.now }
-        ensures { IsStep (λ m. IfSome (slice_get instructions.now place) (λ i. Have (inst_asks f.now m i) m))
-            self.old.bits.items self.new.bits.items self.old.grew self.new.grew }
+    fn ask_line_at(&mut self, f: &Function, insts: &[Inst], place: usize) -> Result<(), AllocError>
+        requires names { length self.old.waits.items ≡ length self.old.bits.items }
+        requires usable { All (IsUsableInst f.now (length self.old.bits.items)) insts.now }
+        ensures { IfOk result (λ _. IsStep (line_asks_at f.now (mask_in self.old.bits.items) insts.now place)
+            self.old.bits.items self.new.bits.items self.old.waits.items self.new.waits.items self.old.ahead.items self.new.ahead.items) }
     {
-        if let Some(instruction) = instructions.get(place) {
-            self.ask_instruction(f, instruction);
+        match insts.get(place) {
+            Some(inst) => self.ask_operands(f, &inst.op, self.result_mask(inst)),
+            None => Ok(()),
         }
     }
 
-    /// Takes in what these instructions ask for, the last one first, since most results are used after their definition.
-    fn ask_instructions(&mut self, f: &Function, instructions: &[Inst])
-        requires { All (IsUsableInst f.now (length self.old.bits.items)) instructions.now }
-        ensures { IsStep (λ m. Have (flat_map (inst_asks f.now m) instructions.now) m)
-            self.old.bits.items self.new.bits.items self.old.grew self.new.grew }
+    /// Takes in what a definition asks for.
+    fn ask_definition(&mut self, f: &Function, definition: Definition) -> Result<(), AllocError>
+        requires names { length self.old.waits.items ≡ length self.old.bits.items }
+        requires usable { All (IsUsableBlock f.now (length self.old.bits.items)) f.now.blocks }
+        ensures { IfOk result (λ _. IsStep (definition_asks f.now (mask_in self.old.bits.items) definition)
+            self.old.bits.items self.new.bits.items self.old.waits.items self.new.waits.items self.old.ahead.items self.new.ahead.items) }
     {
-        for place in (0..instructions.len()).rev() {
-            self.ask_instruction_at(f, instructions, place);
+        match definition {
+            Definition::Phi { block, place } => match f.blocks.as_slice().get(block) {
+                Some(block) => self.ask_phi_at(block.phis.as_slice(), place),
+                None => Ok(()),
+            },
+            Definition::Line { block, place } => match f.blocks.as_slice().get(block) {
+                Some(block) => self.ask_line_at(f, block.insts.as_slice(), place),
+                None => Ok(()),
+            },
         }
     }
 
-    /// Takes in what the phi of this place asks for.
-    fn ask_phi_at(&mut self, phis: &[Phi], place: usize)
-        requires { All (IsUsablePhi (length self.old.bits.items)) phis.now }
-        ensures { IsStep (λ m. IfSome (slice_get phis.now place) (λ p. Have (phi_asks m p) m))
-            self.old.bits.items self.new.bits.items self.old.grew self.new.grew }
+    /// Takes in what these definitions ask for, so that they are settled.
+    pub(crate) fn ask_definitions(
+        &mut self,
+        f: &Function,
+        definitions: &[Definition],
+    ) -> Result<(), AllocError>
+        requires usable { AreUsable f.now }
+        requires searched { IsSearched f.now definitions.now self.old.bits.items self.old.waits.items self.old.ahead.items }
+        ensures searched { IfOk result (λ _. IsSearched f.now [] self.new.bits.items self.new.waits.items self.new.ahead.items) }
+        ensures room { IfOk result (λ _. left_of self.new.bits.items self.new.ahead.items ≤ left_of self.old.bits.items self.old.ahead.items) }
     {
-        if let Some(phi) = phis.get(place) {
-            self.ask_phi(phi);
+        'each: for definition in definitions {
+            self.ask_definition(f, *definition)?;
         }
+        Ok(())
     }
 
-    /// Takes in what these phis ask for.
-    fn ask_phis(&mut self, phis: &[Phi])
-        requires { All (IsUsablePhi (length self.old.bits.items)) phis.now }
-        ensures { IsStep (λ m. Have (flat_map (phi_asks m) phis.now) m)
-            self.old.bits.items self.new.bits.items self.old.grew self.new.grew }
+    /// Takes in what an instruction asks for whatever is asked of its result.
+    fn ask_root(&mut self, f: &Function, inst: &Inst) -> Result<(), AllocError>
+        requires names { length self.old.waits.items ≡ length self.old.bits.items }
+        requires usable { IsUsableInst f.now (length self.old.bits.items) inst.now }
+        ensures { IfOk result (λ _. IsStep (root_asks f.now inst.now)
+            self.old.bits.items self.new.bits.items self.old.waits.items self.new.waits.items self.old.ahead.items self.new.ahead.items) }
     {
-        for place in (0..phis.len()).rev() {
-            self.ask_phi_at(phis, place);
+        if needs_all(&inst.op) {
+            return self.ask_operands(f, &inst.op, 0);
         }
+        Ok(())
     }
 
-    /// Takes in what a block asks for.
-    fn ask_block(&mut self, f: &Function, block: &Block)
-        requires { IsUsableBlock f.now (length self.old.bits.items) block.now }
-        ensures { IsStep (λ m. Have (block_asks f.now m block.now) m)
-            self.old.bits.items self.new.bits.items self.old.grew self.new.grew }
+    fn ask_line_roots(&mut self, f: &Function, insts: &[Inst]) -> Result<(), AllocError>
+        requires names { length self.old.waits.items ≡ length self.old.bits.items }
+        requires usable { All (IsUsableInst f.now (length self.old.bits.items)) insts.now }
+        ensures { IfOk result (λ _. IsStep (flat_map (root_asks f.now) insts.now)
+            self.old.bits.items self.new.bits.items self.old.waits.items self.new.waits.items self.old.ahead.items self.new.ahead.items) }
     {
-        self.ask_terminator(&block.term);
-        self.ask_instructions(f, block.insts.as_slice());
-        self.ask_phis(block.phis.as_slice());
+        'each: for inst in insts {
+            self.ask_root(f, inst)?;
+        }
+        Ok(())
     }
 
-    /// Takes in what the block of this place asks for.
-    fn ask_block_at(&mut self, f: &Function, blocks: &[Block], place: usize)
-        requires { All (IsUsableBlock f.now (length self.old.bits.items)) blocks.now }
-        ensures { IsStep (λ m. IfSome (slice_get blocks.now place) (λ b. Have (block_asks f.now m b) m))
-            self.old.bits.items self.new.bits.items self.old.grew self.new.grew }
+    fn ask_block_roots(&mut self, f: &Function, block: &Block) -> Result<(), AllocError>
+        requires names { length self.old.waits.items ≡ length self.old.bits.items }
+        requires usable { IsUsableBlock f.now (length self.old.bits.items) block.now }
+        ensures { IfOk result (λ _. IsStep (block_root_asks f.now block.now)
+            self.old.bits.items self.new.bits.items self.old.waits.items self.new.waits.items self.old.ahead.items self.new.ahead.items) }
     {
-        if let Some(block) = blocks.get(place) {
-            self.ask_block(f, block);
-        }
+        self.ask_line_roots(f, block.insts.as_slice())?;
+        self.ask_terminator(&block.term)
     }
 
-    /// Takes in what all uses of these blocks of the function ask for, each once.
-    pub(crate) fn ask_blocks(&mut self, f: &Function, blocks: &[Block])
-        requires { All (IsUsableBlock f.now (length self.old.bits.items)) blocks.now }
-        ensures { IsStep (λ m. Have (flat_map (block_asks f.now m) blocks.now) m)
-            self.old.bits.items self.new.bits.items self.old.grew self.new.grew }
+    /// Takes in what is asked for whatever is asked of results: by operations that need all bits, and by terminators.
+    pub(crate) fn ask_roots(&mut self, f: &Function, blocks: &[Block]) -> Result<(), AllocError>
+        requires names { length self.old.waits.items ≡ length self.old.bits.items }
+        requires usable { All (IsUsableBlock f.now (length self.old.bits.items)) blocks.now }
+        ensures { IfOk result (λ _. IsStep (flat_map (block_root_asks f.now) blocks.now)
+            self.old.bits.items self.new.bits.items self.old.waits.items self.new.waits.items self.old.ahead.items self.new.ahead.items) }
     {
-        for place in (0..blocks.len()).rev() {
-            self.ask_block_at(f, blocks, place);
+        'each: for block in blocks {
+            self.ask_block_roots(f, block)?;
         }
+        Ok(())
     }
 }

@@ -4,6 +4,7 @@ ghost use Rattle.std.specs.Prelude.{◌≡◌, IfOk, length};
 ghost use Rattle.vfa_demand.specs.Masks.{AreMasks, mask_in};
 ghost use Rattle.vfa_demand.specs.Usable.{AreUsable};
 
+use crate::definitions::definitions;
 use crate::growing::Growing;
 use std::alloc::{AllocError, Global};
 use vfa_check::Checked;
@@ -30,13 +31,12 @@ pub(crate) fn least_masks(alloc: Global, f: &Function) -> Result<Vec<u128>, Allo
     ensures masks { IfOk result (λ masks. AreMasks f.now (mask_in masks.items)) }
     ensures length { IfOk result (λ masks. length masks.items ≡ length f.now.values) }
 {
-    let mut growing = Growing {
-        bits: vec![in alloc; 0; f.values.as_slice().len()]?,
-        grew: true,
-    };
-    while growing.grew {
-        growing.grew = false;
-        growing.ask_blocks(f, f.blocks.as_slice());
+    let definitions = definitions(alloc, f)?;
+    let mut growing = Growing::new(alloc, f.values.as_slice().len())?;
+    growing.ask_roots(f, f.blocks.as_slice())?;
+    'names: while let Some(name) = growing.ahead.pop() {
+        growing.waits[name] = false;
+        growing.ask_definitions(f, definitions[name].as_slice())?;
     }
     Ok(growing.bits)
 }

@@ -3,6 +3,7 @@
 
 mod all_names;
 mod behind;
+mod definitions;
 mod growing;
 mod least;
 mod operand_names;

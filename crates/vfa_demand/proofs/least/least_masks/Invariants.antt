@@ -1,8 +1,9 @@
-use Rattle.vfa_demand.proofs.Searched.{IsSearched, left_of}
+use Rattle.std.proofs.Common.{[]}
+use Rattle.vfa_demand.specs.Steps.{IsSearched, left_of}
 use Rattle.vfa_demand.proofs.least.least_masks.Given as goal
 
-abbrev pub invariant-loop-growing : goal.invariant-loop-growing
-invariant-loop-growing l = IsSearched l.f l.growing.bits.items l.growing.grew
+abbrev pub invariant-names : goal.invariant-names
+invariant-names l = IsSearched l.f [] l.growing.bits.items l.growing.waits.items l.growing.ahead.items
 
-abbrev pub decreases-loop-growing : goal.decreases-loop-growing
-decreases-loop-growing l = left_of l.growing.bits.items l.growing.grew
+abbrev pub decreases-names : goal.decreases-names
+decreases-names l = left_of l.growing.bits.items l.growing.ahead.items
