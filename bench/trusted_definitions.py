@@ -4,8 +4,8 @@
 usage: bench/trusted_definitions.py [CRATE FUNCTION]      (default: vfa vfa_run)
 
 A clause names definitions; a definition names others by its `use` lines. Both are followed to the end. Files are printed
-lowest first, as they are read. With --check it exits with 1 where docs/TRUST.md names other files, or where a file under no
-public contract does not say so in its first line, or another one does.
+lowest first, as they are read. With --check it exits with 1 where docs/TRUST.md names other files, where a file under no
+contract of a `pub` item does not say so in its first line, or where one under a contract that a crate offers says so.
 """
 import pathlib
 import re
@@ -85,13 +85,46 @@ def under(crate, function):
     return closure(start)
 
 
+def offered(crate):
+    """The names that a crate offers, and the modules that it offers whole."""
+    root = crate / "src" / "lib.rt"
+    text = root.read_text() if root.exists() else ""
+    names = {word for use in re.findall(r"^pub use ([^;]*);", text, re.M) for word in re.findall(r"\w+", use)}
+    return names, set(re.findall(r"^pub mod (\w+);", text, re.M))
+
+
+def offered_text(text, names):
+    """The items of a module with one of these names, and what is said of types with one."""
+    kept = []
+    for item in re.split(r"^(?=(?:pub|fn|impl|trait|struct|enum|type|const)\b)", text, flags=re.M):
+        head = item.split("{")[0] if item.startswith("impl") else " ".join(re.findall(r"\b(?:fn|trait|struct|enum|type) (\w+)", item)[:1])
+        if names & set(re.findall(r"\w+", head)):
+            kept.append(item)
+    return "".join(kept)
+
+
+def sources(crate):
+    return [f for f in sorted((crate / "src").rglob("*.rt")) if f.name != "tests.rt" and "tests" not in f.parts]
+
+
 def public():
+    """The files under contracts of `pub` items, also of modules that are not offered."""
     start = set()
-    for source in sorted(ROOT.glob("crates/*/src/**/*.rt")):
-        if source.name == "tests.rt":
-            continue
-        text = source.read_text()
-        start |= named(text, clauses(text))
+    for crate in sorted((ROOT / "crates").iterdir()):
+        for source in sources(crate):
+            text = source.read_text()
+            start |= named(text, clauses(text))
+    return closure(start)
+
+
+def offered_files():
+    """The files under contracts of items that crates offer."""
+    start = set()
+    for crate in sorted((ROOT / "crates").iterdir()):
+        names, modules = offered(crate)
+        for source in sources(crate):
+            text = source.read_text()
+            start |= named(text, clauses(text if source.stem in modules else offered_text(text, names)))
     return closure(start)
 
 
@@ -103,7 +136,8 @@ def main():
     words = [w for w in sys.argv[1:] if w != "--check"]
     crate, function = words if len(words) == 2 else ("vfa", "vfa_run")
     trusted = under(crate, function)
-    inner = [f for f in specs() if f not in set(public())]
+    some, firm = set(public()), set(offered_files())
+    inner = [f for f in specs() if f not in some]
     name = lambda f: str(f.relative_to(ROOT / "crates"))
     print(f"{len(trusted)} of {len(specs())} files stand under {crate}::{function}:")
     for file in trusted:
@@ -118,7 +152,7 @@ def main():
     wrong = listed ^ {name(f) for f in trusted}
     for file in specs():
         says = file.read_text().startswith(HELPER)
-        if says != (file in inner):
+        if file in firm if says else file in inner:
             wrong.add(name(file))
     for file in sorted(wrong):
         print("wrong: " + file)
