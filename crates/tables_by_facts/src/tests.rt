@@ -5,6 +5,7 @@ mod conditions;
 mod depths;
 mod entries;
 mod narrowing;
+mod predicates;
 mod rounds;
 mod shown;
 mod states;

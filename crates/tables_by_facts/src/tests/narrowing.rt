@@ -242,6 +242,75 @@ fn poison_fails(rt: HostRuntime) {
 }
 
 #[test]
+fn poison_fails_beside_a_mask_and_is_no_mask(rt: HostRuntime) {
+    let alloc = rt.alloc();
+    check_told(
+        &rt,
+        alloc,
+        b"  %m = and i8 poison, 12\n",
+        Change::Unknown(FIRST),
+        &holds(name(FIRST), Pred::Eq, number(4)),
+        NO_VALUES,
+    );
+    check_told(
+        &rt,
+        alloc,
+        b"  %m = and i8 12, poison\n",
+        Change::Unknown(FIRST),
+        &holds(name(FIRST), Pred::Eq, number(4)),
+        NO_VALUES,
+    );
+    check_told(
+        &rt,
+        alloc,
+        b"  %m = and i8 poison, 12\n",
+        Change::Unknown(FIRST),
+        &holds(name(FIRST), Pred::Ule, number(4)),
+        b"%m i8 00000??? [0,5) never-poison\n",
+    );
+    check_told(
+        &rt,
+        alloc,
+        b"  %m = and i8 %x, poison\n",
+        Change::Unknown(FIRST),
+        &holds(name(FIRST), Pred::Eq, number(4)),
+        b"%m i8 00000100 [4,5) never-poison\n",
+    );
+    check_told(
+        &rt,
+        alloc,
+        b"  %m = and i8 poison, %x\n",
+        Change::Unknown(FIRST),
+        &holds(name(FIRST), Pred::Eq, number(4)),
+        b"%m i8 00000100 [4,5) never-poison\n",
+    );
+    check_told(
+        &rt,
+        alloc,
+        b"  %m = and i8 %x, 12\n",
+        Change::Same,
+        &holds(name(FIRST), Pred::Eq, Operand::Poison),
+        NO_VALUES,
+    );
+    check_told(
+        &rt,
+        alloc,
+        b"  %m = and i8 %x, 12\n  %c = icmp eq i8 %m, poison\n",
+        Change::Unknown(SECOND),
+        &is(SECOND, 1),
+        NO_VALUES,
+    );
+    check_told(
+        &rt,
+        alloc,
+        b"  %c = and i1 poison, true\n",
+        Change::Unknown(FIRST),
+        &is(FIRST, 0),
+        NO_VALUES,
+    );
+}
+
+#[test]
 fn names_without_a_fact_are_left_alone(rt: HostRuntime) {
     let alloc = rt.alloc();
     check_told(

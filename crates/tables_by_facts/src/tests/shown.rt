@@ -10,7 +10,7 @@ use vfa_xfer::AnyFact;
 pub const NAMES: u32 = 64;
 
 /// The line of a name's fact; empty where it has none.
-fn line_of(
+pub fn line_of(
     alloc: Global,
     f: &Function,
     state: &State<AnyFact>,
