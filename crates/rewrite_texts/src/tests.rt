@@ -11,7 +11,7 @@ use std::alloc::Global;
 use std::process::Abort;
 use std::test::Fail;
 use vfa_check::{Checked, accepted_may_be_checked, check};
-use vfa_ir::{MOST_NAMES, Outside};
+use vfa_ir::{MOST_BYTES, MOST_NAMES, Outside};
 use vfa_lex::tokens;
 use vfa_print::print_function;
 use vfa_read::read_function;
@@ -19,13 +19,10 @@ use vfa_rewrite::rewrite;
 use vfa_solve::solve;
 use vfa_xfer::AnyFact;
 
-/// How long a text may be.
-const LONGEST: usize = 1000000;
-
 /// The function of a text.
 fn read(alloc: Global, text: &[u8]) -> Result<Checked, Outside> {
     accepted_may_be_checked();
-    if text.len() > LONGEST {
+    if text.len() > MOST_BYTES {
         return Err(Outside::Memory);
     }
     let tokens = tokens(alloc, text)?;
@@ -53,12 +50,7 @@ fn rewritten(alloc: Global, text: &[u8]) -> Result<Vec<u8>, Outside> {
 }
 
 /// Rewriting makes the second text of the first.
-fn check_rewritten(
-    rt: &impl Abort,
-    alloc: Global,
-    text: &[u8],
-    want: &[u8],
-) -> Result<(), Outside> {
+fn check_rewritten(rt: &impl Abort, alloc: Global, text: &[u8], want: &[u8]) -> Result<(), Fail> {
     let found = rewritten(alloc, text)?;
     assert_eq!(rt; found.as_slice(), want);
     Ok(())

@@ -20,8 +20,7 @@ fn a_division_that_may_be_undefined_stays(rt: HostRuntime) -> Result<(), Fail> {
         b"define i8 @keep(i8 %x, i8 noundef %y) {
   ret i8 %x
 }",
-    )?;
-    Ok(())
+    )
 }
 
 #[test]
@@ -47,8 +46,7 @@ fn calls_stay_and_are_made_with_numbers(rt: HostRuntime) -> Result<(), Fail> {
   %r = call noundef i8 @g(i8 noundef %x)
   ret i8 %r
 }";
-    check_rewritten(&rt, alloc, unchanged, unchanged)?;
-    Ok(())
+    check_rewritten(&rt, alloc, unchanged, unchanged)
 }
 
 /// A function of so many results, `%a1 = xor i8 %x, 1` and so on, of which none is used.
@@ -73,6 +71,5 @@ fn as_many_unused_results_as_a_function_may_have_go(rt: HostRuntime) -> Result<(
         b"define i8 @n(i8 %x) {
   ret i8 %x
 }",
-    )?;
-    Ok(())
+    )
 }

@@ -18,8 +18,7 @@ entry:
 entry:
   ret i8 0
 }",
-    )?;
-    Ok(())
+    )
 }
 
 // `true` is -1, and 1 and 1 are 0.
@@ -38,8 +37,7 @@ fn operations_on_numbers_of_width_1(rt: HostRuntime) -> Result<(), Fail> {
         b"define i8 @one() {
   ret i8 -1
 }",
-    )?;
-    Ok(())
+    )
 }
 
 #[test]
@@ -79,8 +77,7 @@ entry:
         b"define i16 @r() {
   ret i16 poison
 }",
-    )?;
-    Ok(())
+    )
 }
 
 #[test]
@@ -100,8 +97,7 @@ fn a_freeze_of_what_is_never_poison_goes(rt: HostRuntime) -> Result<(), Fail> {
   %c = xor i8 %x, %b
   ret i8 %c
 }",
-    )?;
-    Ok(())
+    )
 }
 
 #[test]
@@ -143,8 +139,7 @@ go:
 no:
   ret i32 0
 }",
-    )?;
-    Ok(())
+    )
 }
 
 #[test]
@@ -166,8 +161,7 @@ fn an_overflow_that_is_decided_becomes_a_sum(rt: HostRuntime) -> Result<(), Fail
   %s = add nuw nsw i8 %a, 1
   ret i8 %s
 }",
-    )?;
-    Ok(())
+    )
 }
 
 #[test]
@@ -196,8 +190,7 @@ fn words_are_gained_where_no_number_breaks_them(rt: HostRuntime) -> Result<(), F
   %s = xor i32 %z, %w
   ret i32 %s
 }",
-    )?;
-    Ok(())
+    )
 }
 
 #[test]
@@ -209,6 +202,5 @@ fn bits_that_nobody_asks_for_stay(rt: HostRuntime) -> Result<(), Fail> {
   %t = trunc i32 %s to i8
   ret i8 %t
 }";
-    check_rewritten(&rt, alloc, unchanged, unchanged)?;
-    Ok(())
+    check_rewritten(&rt, alloc, unchanged, unchanged)
 }

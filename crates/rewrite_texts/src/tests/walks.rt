@@ -40,8 +40,7 @@ body:
 exit:
   ret i32 10
 }",
-    )?;
-    Ok(())
+    )
 }
 
 #[test]
@@ -61,8 +60,7 @@ head:
 exit:
   ret i8 %a
 }";
-    check_rewritten(&rt, alloc, unchanged, unchanged)?;
-    Ok(())
+    check_rewritten(&rt, alloc, unchanged, unchanged)
 }
 
 #[test]
@@ -82,8 +80,7 @@ join:
 other:
   ret i8 0
 }";
-    check_rewritten(&rt, alloc, unchanged, unchanged)?;
-    Ok(())
+    check_rewritten(&rt, alloc, unchanged, unchanged)
 }
 
 #[test]
@@ -123,8 +120,7 @@ fn a_branch_that_is_decided_goes_and_numbered_names_count_anew(
   %6 = phi i32 [ %4, %3 ]
   ret i32 %6
 }",
-    )?;
-    Ok(())
+    )
 }
 
 #[test]
@@ -146,6 +142,5 @@ entry:
   call void @llvm.assume(i1 false)
   unreachable
 }",
-    )?;
-    Ok(())
+    )
 }
