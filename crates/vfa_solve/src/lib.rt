@@ -1,7 +1,6 @@
-//! The table of a function, by rounds.
+//! The table of a function, which is true.
 #![tactic(auto)]
 
-mod rounds;
 mod solving;
 
 pub use solving::solve;

@@ -1,41 +1,27 @@
 //! The table of a function.
 
 ghost use Rattle.std.specs.Prelude.{◌≡◌, IfOk, length};
+ghost use Rattle.vfa_ir.specs.Printable.{IsPrintable};
+ghost use Rattle.vfa_check.specs.Checked.{IsChecked};
 ghost use Rattle.vfa_walk.specs.Analysis.{Layout, IsLayout};
 ghost use Rattle.vfa_walk.specs.Kept.{AreStates, kept_entries};
 ghost use Rattle.vfa_walk.specs.Tables.{HasShape, IsTableOf, IsTrueTable};
 ghost use Rattle.vfa_walk.specs.TruthLaws.{HasTypedFacts};
 
-use crate::rounds::{last_next, was_checked};
 use std::alloc::{AllocError, Global};
 use vfa_check::Checked;
+use vfa_print::fit_is_printable;
 use vfa_values::Values;
 use vfa_walk::truth::{table_has_shape, table_is_true};
-use vfa_walk::{Marks, Table, pass, table_without_loops};
+use vfa_walk::{Table, table_by_rounds};
 
-/// The table of a function by rounds, until one changes nothing.
-fn table_by_rounds<V: Values>(alloc: Global, f: &Checked) -> Result<Table<V>, AllocError>
-    ensures table { IfOk result (λ t. IsTableOf V.answers f.now (kept_entries t)) }
-    ensures states { IfOk result (λ t. AreStates V.ty V.proper f.now t) }
-    ensures count { IfOk result (λ t. length t ≡ length f.now.blocks) }
+/// What is known of a function that was checked.
+fn was_checked(f: &Checked)
+    ensures checked { IsChecked f.now }
+    ensures printable { IsPrintable f.now }
 {
-    let order = f.order();
-    let marks = Marks::of(alloc, f)?;
-    let next = last_next(alloc, f, order, &marks)?;
-    let passed = pass(alloc, f, next.as_slice())?;
-    Ok(passed.table)
-}
-
-/// The table of a function. Without loops one pass gives it, and no landmarks are asked for.
-fn table_of<V: Values>(alloc: Global, f: &Checked) -> Result<Table<V>, AllocError>
-    ensures table { IfOk result (λ t. IsTableOf V.answers f.now (kept_entries t)) }
-    ensures states { IfOk result (λ t. AreStates V.ty V.proper f.now t) }
-    ensures count { IfOk result (λ t. length t ≡ length f.now.blocks) }
-{
-    match table_without_loops(alloc, f)? {
-        Some(table) => Ok(table),
-        None => table_by_rounds(alloc, f),
-    }
+    fit_is_printable();
+    let _ = f.function();
 }
 
 /// The table of a function: the entry state of each block, its phis done; none for a block to which no run comes.
@@ -59,6 +45,6 @@ pub fn solve<V: Values>(alloc: Global, f: &Checked) -> Result<Table<V>, AllocErr
     was_checked(f);
     table_is_true::<V>();
     table_has_shape::<V>();
-    let table = table_of(alloc, f)?;
+    let table = table_by_rounds(alloc, f)?;
     Ok(table)
 }

@@ -19,6 +19,7 @@ pub mod PassEquations
 pub mod Passing
 pub mod Readied
 pub mod Rising
+pub mod RoundSteps
 pub mod RoundsEnd
 pub mod States
 pub mod Steps

@@ -5,6 +5,7 @@ pub mod Heads
 pub mod Joining
 pub mod Kept
 pub mod Landmarks
+pub mod LastRound
 pub mod Leaving
 pub mod Marks
 pub mod Passes

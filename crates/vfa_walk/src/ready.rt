@@ -36,3 +36,12 @@ pub(crate) fn printable(f: &Checked) -> &Function
     fit_is_printable();
     f.function()
 }
+
+/// What is known of a function that was checked.
+pub(crate) fn was_checked(f: &Checked)
+    ensures checked { IsChecked f.now }
+    ensures printable { IsPrintable f.now }
+{
+    fit_is_printable();
+    let _ = f.function();
+}

@@ -1,21 +1,24 @@
-//! The rounds: each widens the states of heads by what comes to them in a pass.
+//! The table of a function by rounds: each widens the states of heads by what comes to them in a pass.
 
 ghost use Rattle.std.specs.Prelude.{◌≡◌, ◌+◌, ℕ, All, Bool, IfOk, None, length, min};
-ghost use Rattle.vfa_ir.specs.Printable.{IsPrintable};
-ghost use Rattle.vfa_check.specs.Checked.{IsChecked};
-ghost use Rattle.vfa_solve.specs.LastRound.{ComesLast};
 ghost use Rattle.vfa_walk.specs.Analysis.{Layout, IsLayout, flow_of, last_round};
-ghost use Rattle.vfa_walk.specs.Kept.{AreStates, kept_in_order};
+ghost use Rattle.vfa_walk.specs.Kept.{AreStates, kept_entries, kept_in_order};
+ghost use Rattle.vfa_walk.specs.LastRound.{ComesLast};
 ghost use Rattle.vfa_walk.specs.Marks.{AreMarksOf};
 ghost use Rattle.vfa_walk.specs.Sending.{layout};
+ghost use Rattle.vfa_walk.specs.Tables.{IsTableOf};
 
+use crate::heads::widen_heads_by;
+use crate::loop_free::table_without_loops;
+use crate::marks::Marks;
+use crate::passes::pass;
+use crate::ready::was_checked;
+use crate::tables::Table;
 use std::alloc::{AllocError, Global};
 use vfa_check::Checked;
 use vfa_cond::State;
 use vfa_ir::{BlockId, Items};
-use vfa_print::fit_is_printable;
 use vfa_values::Values;
-use vfa_walk::{Marks, pass, widen_heads_by};
 
 /// No state, so many times.
 fn no_states<V: Values>(alloc: Global, count: usize) -> Result<Items<Option<State<V>>>, AllocError>
@@ -36,17 +39,8 @@ fn round_after(round: u32) -> u32
     round.saturating_add(1)
 }
 
-/// What is known of a function that was checked.
-pub(crate) fn was_checked(f: &Checked)
-    ensures checked { IsChecked f.now }
-    ensures printable { IsPrintable f.now }
-{
-    fit_is_printable();
-    let _ = f.function();
-}
-
 /// What comes to the heads in the first round that changes nothing, one place for each block of the order.
-pub(crate) fn last_next<V: Values>(
+fn last_next<V: Values>(
     alloc: Global,
     f: &Checked,
     order: &[BlockId],
@@ -71,5 +65,35 @@ pub(crate) fn last_next<V: Values>(
         }
         heads = widened.heads;
         round = round_after(round);
+    }
+}
+
+/// The table of a function by rounds, until one changes nothing, and one more pass.
+fn table_with_loops<V: Values>(alloc: Global, f: &Checked) -> Result<Table<V>, AllocError>
+    ensures table { IfOk result (λ t. IsTableOf V.answers f.now (kept_entries t)) }
+    ensures states { IfOk result (λ t. AreStates V.ty V.proper f.now t) }
+    ensures count { IfOk result (λ t. length t ≡ length f.now.blocks) }
+{
+    let order = f.order();
+    let marks = Marks::of(alloc, f)?;
+    let next = last_next(alloc, f, order, &marks)?;
+    let passed = pass(alloc, f, next.as_slice())?;
+    Ok(passed.table)
+}
+
+/// The table of a function. Heads of loops begin without a state; rounds of a pass and a widening go on until one changes
+/// nothing, and one more pass begins with what came to the heads in that round. Without loops one pass gives the table, and
+/// no landmarks are asked for.
+///
+/// In `entry: br label %head`, `head: %i = phi i8 [ 0, %entry ], [ %n, %head ]`, `%n = add i8 %i, 1`,
+/// `br i1 %c, label %head, label %exit` facts say of `%i` that it may be any number, and is never poison.
+pub fn table_by_rounds<V: Values>(alloc: Global, f: &Checked) -> Result<Table<V>, AllocError>
+    ensures table { IfOk result (λ t. IsTableOf V.answers f.now (kept_entries t)) }
+    ensures states { IfOk result (λ t. AreStates V.ty V.proper f.now t) }
+    ensures count { IfOk result (λ t. length t ≡ length f.now.blocks) }
+{
+    match table_without_loops(alloc, f)? {
+        Some(table) => Ok(table),
+        None => table_with_loops(alloc, f),
     }
 }

@@ -6,8 +6,8 @@ use Rattle.vfa_walk.specs.Passes.{pass_next}
 use Rattle.vfa_walk.specs.Sending.{layout}
 use Rattle.vfa_walk.proofs.Listed.{none_states}
 use Rattle.vfa_walk.proofs.Nexts.{same_order}
-use Rattle.vfa_solve.proofs.RoundSteps.{IsAfter, NoneMoved, SomeMoved, begins, ends, goes_on, left_before, less_is_left, made, where_no, where_yes}
-use Rattle.vfa_solve.proofs.rounds.last_next.Goals as goal
+use Rattle.vfa_walk.proofs.RoundSteps.{IsAfter, NoneMoved, SomeMoved, begins, ends, goes_on, left_before, less_is_left, made, where_no, where_yes}
+use Rattle.vfa_walk.proofs.rounds.last_next.Goals as goal
 
 pub rounds-init : goal.rounds-init
 rounds-init g c = record {

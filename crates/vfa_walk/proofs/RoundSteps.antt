@@ -24,7 +24,7 @@ use Rattle.vfa_walk.proofs.EndingRounds.{left_at_last, no_head_no_state, still_o
 use Rattle.vfa_walk.proofs.LoopFree.{ordered_nothing}
 use Rattle.vfa_walk.proofs.RoundsEnd.{next_alike, pass_alike}
 use Rattle.vfa_walk.proofs.States.{funext}
-use Rattle.vfa_solve.specs.LastRound.{ComesLast}
+use Rattle.vfa_walk.specs.LastRound.{ComesLast}
 
 -- The heads are those after some rounds, each of which changed something, and the number is that of the next round.
 pub record IsAfter {V : Type 0} (answers : Answers V) (f : Function) (l : Layout) (heads : List (Option (Stored V))) (round : ℕ) : Type 0 where

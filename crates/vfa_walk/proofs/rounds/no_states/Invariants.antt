@@ -1,5 +1,5 @@
 use Rattle.std.proofs.Common.{◌≡◌, None, All, length}
-use Rattle.vfa_solve.proofs.rounds.no_states.Given as goal
+use Rattle.vfa_walk.proofs.rounds.no_states.Given as goal
 
 abbrev pub invariant-places : goal.invariant-places
 invariant-places g l = record {

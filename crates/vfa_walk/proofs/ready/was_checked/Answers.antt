@@ -1,4 +1,4 @@
-use Rattle.vfa_solve.proofs.rounds.was_checked.Goals as goal
+use Rattle.vfa_walk.proofs.ready.was_checked.Goals as goal
 
 pub returns-clause-checked : goal.returns-clause-checked
 returns-clause-checked c = c.function.ensures.checked

@@ -5,8 +5,8 @@ use Rattle.vfa_walk.specs.Passes.{pass_table}
 use Rattle.vfa_walk.specs.Sending.{layout}
 use Rattle.vfa_walk.proofs.LoopFree.{scoped, scoped_layout}
 use Rattle.vfa_walk.proofs.Nexts.{same_order}
-use Rattle.vfa_solve.proofs.RoundSteps.{gives_table}
-use Rattle.vfa_solve.proofs.solving.table_by_rounds.Goals as goal
+use Rattle.vfa_walk.proofs.RoundSteps.{gives_table}
+use Rattle.vfa_walk.proofs.rounds.table_with_loops.Goals as goal
 
 pub last_next-requires-clause-layout : goal.last_next-requires-clause-layout
 last_next-requires-clause-layout g c =

@@ -1,8 +1,8 @@
 use Rattle.std.proofs.Common.{◌≡◌, ◌≤◌, length}
 use Rattle.vfa_walk.specs.Analysis.{Layout, IsLayout}
 use Rattle.vfa_walk.specs.Kept.{AreStates}
-use Rattle.vfa_solve.proofs.RoundSteps.{IsAfter, left_before}
-use Rattle.vfa_solve.proofs.rounds.last_next.Given as goal
+use Rattle.vfa_walk.proofs.RoundSteps.{IsAfter, left_before}
+use Rattle.vfa_walk.proofs.rounds.last_next.Given as goal
 
 abbrev pub invariant-rounds : goal.invariant-rounds
 invariant-rounds g l = record {
