@@ -16,10 +16,8 @@ use Rattle.vfa_cfg.specs.Edges.{edge, case_edges, block_edges}
 use Rattle.vfa_values.specs.Answers.{Answers}
 use Rattle.vfa_cond.specs.States.{AbstractState}
 use Rattle.vfa_walk.specs.Joining.{joined}
-use Rattle.vfa_walk.specs.Leaving.{along_way, along_edge, joined_edges, edges_out, paired, with_phis}
+use Rattle.vfa_walk.specs.Leaving.{along_way, along_edge, joined_edges, edges_out, paired}
 use Rattle.vfa_walk.specs.Passes.{merged}
-use Rattle.vfa_walk.specs.Sending.{sent}
-use Rattle.vfa_walk.specs.Tables.{States}
 use Rattle.vfa_walk.proofs.PassEquations.{if_no, or_none}
 use Rattle.vfa_walk.proofs.Steps.{from_place}
 use Rattle.vfa_ir.specs.declared.operations.Operand.{Operand}
@@ -144,13 +142,6 @@ module _ {V : Type 0} (answers : Answers V) (f : Function) (from to : ℕ) (s : 
           ap (λ list. joined_edges answers f to s list None) (out_is f from block is)
           ∙ joined_skips (block_edges from block.term) None
           (ap (is_in to) (edges_lead from block.term ∙ sym (leads_out f from block is)) ∙ absent)
-
-pub no_sent : {V : Type 0} (answers : Answers V) (f : Function) (ends : States V) (from to : ℕ) → is_in to (successors f from) ≡ false → sent answers f ends to from ≡ None
-no_sent {V = V} answers f ends from to absent = ap (option_map (with_phis answers f from to)) (at (ends from))
-  where
-    at : (o : Option (AbstractState V)) → and_then o (paired answers f from to) ≡ None
-    at None = refl
-    at (Some s) = no_pair answers f from to s absent
 
 -- ---- the cases of a switch that are left
 

@@ -9,16 +9,16 @@ use Rattle.vfa_walk.specs.Flow.{Flow}
 use Rattle.vfa_walk.specs.Passes.{Entries, merged, gathered, followed, handed, met, with_entry}
 use Rattle.vfa_walk.proofs.PassEquations.{if_yes, if_no, gathered_same, handed_same}
 
-differs : (p b : ℕ) (list : List ℕ) → is_in p list ≡ true → is_in b list ≡ false → nat_eq p b ≡ false
+pub differs : (p b : ℕ) (list : List ℕ) → is_in p list ≡ true → is_in b list ≡ false → nat_eq p b ≡ false
 differs p b list here absent =
     no_truth (nat_eq p b) (λ same. false_is_no_truth {X = ⊥} (subst (λ q. is_in q list ≡ true) (eqb-true p b same) here) absent)
 
-head_apart : (b : ℕ) (rest : List ℕ) → IsDistinct nat_eq (b ∷ rest) → is_in b rest ≡ false
+pub head_apart : (b : ℕ) (rest : List ℕ) → IsDistinct nat_eq (b ∷ rest) → is_in b rest ≡ false
 unfolding IsDistinct
 head_apart b rest d = apart_in b rest d.0
 
 module _ {S : Type 0} where
-  merged_none : (join : S → S → S) (sum : Option S) → merged join sum None ≡ sum
+  pub merged_none : (join : S → S → S) (sum : Option S) → merged join sum None ≡ sum
   merged_none join None = refl
   merged_none join (Some s) = refl
 

@@ -7,6 +7,7 @@ pub mod EndingStill
 pub mod Facts
 pub mod Found
 pub mod Going
+pub mod Handed
 pub mod HeadsKept
 pub mod Listed
 pub mod LiteralsFit

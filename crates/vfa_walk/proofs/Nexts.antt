@@ -13,13 +13,14 @@ use Rattle.vfa_cfg.proofs.Members.{first_or_rest, false_is_no_truth, no_truth, o
 use Rattle.vfa_values.specs.Answers.{Answers}
 use Rattle.vfa_cond.specs.States.{AbstractState, Stored, known}
 use Rattle.vfa_walk.specs.Analysis.{Layout, IsLayout, flow_of}
+use Rattle.vfa_walk.specs.Flow.{Flow}
+use Rattle.vfa_walk.specs.Joining.{kept_names}
 use Rattle.vfa_walk.specs.Kept.{entry_in, kept_in_order}
 use Rattle.vfa_walk.specs.Passes.{met, pass_next, pass_table}
-use Rattle.vfa_walk.specs.Sending.{AreEnds, layout, next_at}
+use Rattle.vfa_walk.specs.Sending.{got_from, layout, next_at}
 use Rattle.vfa_walk.specs.Tables.{States}
 use Rattle.vfa_walk.proofs.Listed.{ordered_at, ordered_outside}
 use Rattle.vfa_walk.proofs.PassEquations.{met_same, handed_same}
-use Rattle.vfa_walk.proofs.Passing.{met_is}
 
 -- the default where a list of blocks ends
 abbrev pub no_block : BlockId
@@ -84,6 +85,9 @@ module _ {V : Type 0} where
   entry_at (x ∷ list) zero inside = refl
   entry_at (x ∷ list) (suc k) inside = entry_at list k (omega arith)
 
+  pub next_same : (f : Function) (order : List BlockId) (names : ℕ → ℕ → Bool) (got got' : States V) (b : ℕ) → got b ≡ got' b → next_at f order got names b ≡ next_at f order got' names b
+  next_same f order names got got' b same = ap (λ o. if is_head f order b then option_map (kept_names (names b)) o else None) same
+
   -- one more of the entries
   pub nexts_more : (P : ℕ → Option (AbstractState V)) (list : List (Option (Stored V))) (place : ℕ) (e : Option (Stored V)) → length list ≡ place →
       option_map known e ≡ P place → ((k : ℕ) → k < place → option_map known (entry_in list k) ≡ P k) →
@@ -97,26 +101,30 @@ module _ {V : Type 0} where
           ap (option_map known) (entry_last list e k (omega arith)) ∙ (last ∙ ap P (sym same))
 
   -- they are what a pass gives the heads
-  pub nexts_are : (answers : Answers V) (f : Function) (order : List BlockId) (names : ℕ → ℕ → Bool) (x t ends : States V) (list : List (Option (Stored V))) →
-      IsDistinct nat_eq (numbers order) → length list ≡ length order → AreEnds answers f t ends →
+  pub nexts_are : (answers : Answers V) (f : Function) (order : List BlockId) (names : ℕ → ℕ → Bool) (x t got : States V) (list : List (Option (Stored V))) →
+      IsDistinct nat_eq (numbers order) → length list ≡ length order → ((b : ℕ) → is_head f order b ≡ true → got b ≡ got_from answers f t (numbers order) b) →
       ((b : ℕ) → t b ≡ pass_table (flow_of answers f (layout order names)) x b) →
-      ((k : ℕ) → k < length order → option_map known (entry_in list k) ≡ next_at answers f order ends names (get_or order k no_block).0) →
+      ((k : ℕ) → k < length order → option_map known (entry_in list k) ≡ next_at f order got names (get_or order k no_block).0) →
       (b : ℕ) → kept_in_order order list b ≡ pass_next (flow_of answers f (layout order names)) x b
-  nexts_are answers f order names x t ends list distinct count are table each b = at (is_in b (numbers order)) refl
+  nexts_are answers f order names x t got list distinct count gets table each b = at (is_in b (numbers order)) refl
     where
-      outside : is_head f order b ≡ false → pass_next (flow_of answers f (layout order names)) x b ≡ None
-      outside none = ap (λ h. if h then met (flow_of answers f (layout order names)) (pass_table (flow_of answers f (layout order names)) x) b else None) none
+      m : Flow (AbstractState V)
+      m = flow_of answers f (layout order names)
 
-      inside : HasPlace order b → kept_in_order order list b ≡ pass_next (flow_of answers f (layout order names)) x b
+      outside : is_head f order b ≡ false → pass_next m x b ≡ None
+      outside none = ap (λ h. if h then met m (pass_table m x) b else None) none
+
+      head : (h : Bool) → is_head f order b ≡ h → (if h then option_map (kept_names (names b)) (got b) else None) ≡ (if h then met m (pass_table m x) b else None)
+      head true e = ap (option_map (kept_names (names b))) (gets b e) ∙ met_same m t (pass_table m x) b (λ q _. handed_same m t (pass_table m x) b q (table q))
+      head false e = refl
+
+      inside : HasPlace order b → kept_in_order order list b ≡ pass_next m x b
       inside p =
           let within : p.place < length order = p.inside in
           ap (kept_in_order order list) (sym p.is)
           ∙ (ordered_at order list p.place None no_block distinct p.inside count
-          ∙ (sym (entry_at list p.place (omega arith)) ∙ (each p.place p.inside ∙ (ap (next_at answers f order ends names) p.is
-          ∙ ap (λ o. if is_head f order b then o else None)
-          (met_is answers f order names t ends are b
-          ∙ met_same (flow_of answers f (layout order names)) t (pass_table (flow_of answers f (layout order names)) x) b (λ q _. handed_same (flow_of answers f (layout order names)) t (pass_table (flow_of answers f (layout order names)) x) b q (table q)))))))
+          ∙ (sym (entry_at list p.place (omega arith)) ∙ (each p.place p.inside ∙ (ap (next_at f order got names) p.is ∙ head (is_head f order b) refl))))
 
-      at : (here : Bool) → is_in b (numbers order) ≡ here → kept_in_order order list b ≡ pass_next (flow_of answers f (layout order names)) x b
+      at : (here : Bool) → is_in b (numbers order) ≡ here → kept_in_order order list b ≡ pass_next m x b
       at true here = inside (place_of order b here)
       at false here = ordered_outside order list b here ∙ sym (outside (no_head f order b here))

@@ -1,12 +1,11 @@
 //! What the edges of a block hand on.
 
-ghost use Rattle.std.specs.Prelude.{◌≡◌, ◌<◌, ◌≤◌, ◌^◌, ◌+◌, [], ◌∷◌, All, IfOk, IfSome, IsTrue, length, map, nat_eq, if◌then◌else◌, slice_get};
+ghost use Rattle.std.specs.Prelude.{◌≡◌, ◌<◌, ◌≤◌, ◌^◌, ◌+◌, [], ◌∷◌, All, IfOk, IfSome, IsTrue, length, nat_eq, if◌then◌else◌, slice_get};
 ghost use Rattle.std.specs.Option.{ForSome, option_map};
 ghost use Rattle.vfa_ir.specs.declared.operations.BlockId.{BlockId};
 ghost use Rattle.vfa_ir.specs.declared.operations.Ty.TheVariants.{Int};
 ghost use Rattle.vfa_ir.specs.declared.functions.Term.TheVariants.{CondBr, Switch};
 ghost use Rattle.vfa_ir.specs.PhisFit.{targets};
-ghost use Rattle.vfa_ir.specs.Walks.{is_in, successors};
 ghost use Rattle.vfa_mean.specs.Outcomes.{entry_from};
 ghost use Rattle.vfa_cfg.specs.declared.listing.Way.TheVariants.{Always, Yes, No, Other};
 ghost use Rattle.vfa_cfg.specs.Edges.{block_edges, case_edges, edge};
@@ -297,57 +296,6 @@ fn pair_from<V: Values>(
         sum = join_edge(alloc, f, end, &block.term, edge, to, sum)?;
     }
     Ok(sum)
-}
-
-fn is_one_of_two(yes: BlockId, no: BlockId, to: BlockId) -> bool
-    ensures { result ≡ is_in to.0 (yes.0 ∷ no.0 ∷ []) }
-{
-    if to == yes {
-        return true;
-    }
-    to == no
-}
-
-fn is_case_target(cases: &[(u128, BlockId)], to: BlockId) -> bool
-    ensures { result ≡ is_in to.0 (map (λ t. t.0) (map (λ c. c.1) cases.now)) }
-{
-    'cases: for case in cases {
-        if to == case.1 {
-            return true;
-        }
-    }
-    false
-}
-
-fn is_switch_target(other: BlockId, cases: &[(u128, BlockId)], to: BlockId) -> bool
-    ensures { result ≡ is_in to.0 (other.0 ∷ map (λ t. t.0) (map (λ c. c.1) cases.now)) }
-{
-    if to == other {
-        return true;
-    }
-    is_case_target(cases, to)
-}
-
-/// Whether a terminator leads to a block.
-fn is_target(term: &Term, to: BlockId) -> bool
-    ensures { result ≡ is_in to.0 (map (λ t. t.0) (targets term.now)) }
-{
-    match term {
-        Term::Ret { .. } | Term::Unreachable => false,
-        Term::Br(only) => to == *only,
-        Term::CondBr { yes, no, .. } => is_one_of_two(*yes, *no, to),
-        Term::Switch { other, cases, .. } => is_switch_target(*other, cases.as_slice(), to),
-    }
-}
-
-/// Whether an edge leads from a block to another.
-pub(crate) fn leads(f: &Function, from: BlockId, to: BlockId) -> bool
-    ensures { result ≡ is_in to.0 (successors f.now from.0) }
-{
-    match block_at(f, from) {
-        Some(block) => is_target(&block.term, to),
-        None => false,
-    }
 }
 
 /// What all edges of a block to another make of the state before its terminator; None where there is no such edge, or no

@@ -4,6 +4,7 @@
 mod blocks;
 mod cursor;
 mod definitions;
+mod handing;
 mod heads;
 mod joining;
 mod landmarks;

@@ -1,9 +1,10 @@
 //! Passes of states through the blocks.
 
-ghost use Rattle.std.specs.Prelude.{◌≡◌, ◌<◌, ◌≤◌, ◌^◌, ℕ, Bool, List, IfOk, MatchBool, length, nat_eq, if◌then◌else◌, slice_index_or, true};
+ghost use Rattle.std.specs.Prelude.{◌≡◌, ◌<◌, ◌≤◌, ◌^◌, ℕ, Bool, List, IfOk, MatchBool, None, false, length, nat_eq, if◌then◌else◌, slice_index_or, slice_set, true};
+ghost use Rattle.std.specs.List.{IsDistinct};
 ghost use Rattle.std.specs.Option.{ForSome, option_map};
 ghost use Rattle.vfa_ir.specs.declared.operations.BlockId.{BlockId};
-ghost use Rattle.vfa_ir.specs.Walks.{is_in, successors, IsDefinedAt, IsMissedAt};
+ghost use Rattle.vfa_ir.specs.Walks.{IsDefinedAt, IsMissedAt};
 ghost use Rattle.vfa_mean.specs.Outcomes.{first_block, has_noundef, type_of};
 ghost use Rattle.vfa_cfg.specs.Heads.{is_head};
 ghost use Rattle.vfa_cfg.specs.Order.{IsOrder, numbers};
@@ -11,21 +12,18 @@ ghost use Rattle.vfa_cfg.specs.Ordered.{IsOrdered};
 ghost use Rattle.vfa_values.specs.Conditions.{IsOf};
 ghost use Rattle.vfa_cond.specs.States.{known, with_fact};
 ghost use Rattle.vfa_walk.specs.Analysis.{Layout, IsLayout, flow_of, start_state};
-ghost use Rattle.vfa_walk.specs.Joining.{joined, kept_names};
+ghost use Rattle.vfa_walk.specs.Joining.{kept_names};
 ghost use Rattle.vfa_walk.specs.Kept.{AreStates, IsStateOf, entry_in, kept_entries, kept_in_order, taken};
-ghost use Rattle.vfa_walk.specs.Passes.{followed, gathered, pass_next, pass_table};
+ghost use Rattle.vfa_walk.specs.Passes.{pass_next, pass_table};
 ghost use Rattle.vfa_walk.specs.Ready.{HasFewNames, IsNameOf, IsReady};
-ghost use Rattle.vfa_walk.specs.Sending.{AreEnds, IsScopeAt, layout, next_at, sent};
-ghost use Rattle.vfa_walk.specs.Stepping.{before_end};
+ghost use Rattle.vfa_walk.specs.Sending.{IsApart, IsScopeAt, got_from, layout, next_at};
 
 use crate::definitions::has_noundef;
-use crate::joining::{merge, take_over};
-use crate::leaving::{hand_on, leads};
-use crate::pairs::end_of;
+use crate::handing::send;
+use crate::joining::take_over;
 use crate::ready::ready;
 use crate::tables::Table;
 use std::alloc::{AllocError, Global};
-use vfa_cfg::successor;
 use vfa_check::Checked;
 use vfa_cond::State;
 use vfa_ir::{BlockId, Function, Items, Param, Ty, ValueId};
@@ -132,73 +130,26 @@ pub(crate) fn type_of(f: &Function, v: ValueId) -> Ty
     }
 }
 
-/// What a block hands on to another, by the state before its terminator.
-fn sent<V: Values>(
-    alloc: Global,
-    f: &Function,
-    ends: &Table<V>,
-    from: BlockId,
-    to: BlockId,
-) -> Result<Option<State<V>>, AllocError>
-    requires ready { IsReady f.now }
-    requires few { HasFewNames f.now }
-    requires states { AreStates V.ty V.proper f.now ends.now }
-    ensures sent { IfOk result (λ o. option_map known o ≡ sent V.answers f.now (kept_entries ends.now) to.0 from.0) }
-    ensures state { IfOk result (λ o. ForSome o (IsStateOf V.ty V.proper f.now)) }
-{
-    if !leads(f, from, to) {
-        return Ok(None);
-    }
-    match ends.entry(from) {
-        Some(end) => hand_on(alloc, f, end, from, to),
-        None => Ok(None),
-    }
-}
-
-/// What a block gets from all blocks of the order.
-fn gather<V: Values>(
-    alloc: Global,
-    f: &Function,
-    order: &[BlockId],
-    ends: &Table<V>,
-    to: BlockId,
-) -> Result<Option<State<V>>, AllocError>
-    requires ready { IsReady f.now }
-    requires few { HasFewNames f.now }
-    requires states { AreStates V.ty V.proper f.now ends.now }
-    ensures gathered { IfOk result (λ o. option_map known o ≡ gathered (joined V.answers) (sent V.answers f.now (kept_entries ends.now) to.0) (numbers order.now) None) }
-    ensures state { IfOk result (λ o. ForSome o (IsStateOf V.ty V.proper f.now)) }
-{
-    let mut sum: Option<State<V>> = None;
-    'order: for from in order {
-        let next = sent(alloc, f, ends, *from, to)?;
-        sum = merge(f, sum, next);
-    }
-    Ok(sum)
-}
-
-/// What a block gets, cut to what its entry has in scope.
+/// What a block has got, cut to what its entry has in scope; it is taken out.
 fn met<V: Values>(
-    alloc: Global,
     checked: &Checked,
     f: &Function,
-    order: &[BlockId],
-    ends: &Table<V>,
+    got: &mut Table<V>,
     b: BlockId,
-) -> Result<Option<State<V>>, AllocError>
+) -> Option<State<V>>
     requires same { f.now ≡ checked.now }
-    requires ready { IsReady f.now }
     requires few { HasFewNames f.now }
-    requires states { AreStates V.ty V.proper f.now ends.now }
-    ensures met { IfOk result (λ o. (names : ℕ → Bool) → IsScopeAt f.now b.0 names →
-        option_map known o ≡ option_map (kept_names names) (gathered (joined V.answers) (sent V.answers f.now (kept_entries ends.now) b.0) (numbers order.now) None)) }
-    ensures state { IfOk result (λ o. ForSome o (IsStateOf V.ty V.proper f.now)) }
+    requires states { AreStates V.ty V.proper f.now got.old }
+    ensures met { (names : ℕ → Bool) → IsScopeAt f.now b.0 names →
+        option_map known result ≡ option_map (kept_names names) (kept_entries got.old b.0) }
+    ensures state { ForSome result (IsStateOf V.ty V.proper f.now) }
+    ensures left { got.new ≡ slice_set got.old b.0 None }
 {
-    let Some(mut state) = gather(alloc, f, order, ends, b)? else {
-        return Ok(None);
+    let Some(mut state) = got.take(b) else {
+        return None;
     };
     cut(&mut state, checked, f, b);
-    Ok(Some(state))
+    Some(state)
 }
 
 /// Whether a block is a head of the order.
@@ -212,13 +163,13 @@ pub(crate) fn is_head(checked: &Checked, f: &Function, order: &[BlockId], b: Blo
     checked.is_head(b)
 }
 
-/// The entry state of a block in its turn.
+/// The entry state of a block in its turn. What a block other than a head has got is taken out.
 fn entry_of<V: Values>(
     alloc: Global,
     checked: &Checked,
     f: &Function,
     order: &[BlockId],
-    ends: &Table<V>,
+    got: &mut Table<V>,
     b: BlockId,
     head: &Option<State<V>>,
 ) -> Result<Option<State<V>>, AllocError>
@@ -226,13 +177,16 @@ fn entry_of<V: Values>(
     requires ready { IsReady f.now }
     requires few { HasFewNames f.now }
     requires order { IsOrder f.now order.now }
-    requires states { AreStates V.ty V.proper f.now ends.now }
+    requires states { AreStates V.ty V.proper f.now got.old }
     requires head { ForSome head.now (IsStateOf V.ty V.proper f.now) }
     ensures entry { IfOk result (λ o. (names : ℕ → Bool) → IsScopeAt f.now b.0 names → option_map known o ≡
         (if nat_eq b.0 first_block then Some (start_state V.answers f.now)
         else if is_head f.now order.now b.0 then option_map known head.now
-        else option_map (kept_names names) (gathered (joined V.answers) (sent V.answers f.now (kept_entries ends.now) b.0) (numbers order.now) None))) }
+        else option_map (kept_names names) (kept_entries got.old b.0))) }
     ensures state { IfOk result (λ o. ForSome o (IsStateOf V.ty V.proper f.now)) }
+    ensures others { IfOk result (λ _. (c : ℕ) → IsApart f.now order.now b.0 c → kept_entries got.new c ≡ kept_entries got.old c) }
+    ensures states { IfOk result (λ _. AreStates V.ty V.proper f.now got.new) }
+    ensures count { IfOk result (λ _. length got.new ≡ length got.old) }
 {
     if b.0 == 0 {
         return Ok(Some(start(alloc, f)?));
@@ -240,52 +194,14 @@ fn entry_of<V: Values>(
     if is_head(checked, f, order, b) {
         return copied(alloc, f, head);
     }
-    met(alloc, checked, f, order, ends, b)
+    Ok(met(checked, f, got, b))
 }
 
-/// The state before the terminator of a block, by its entry state.
-fn stepped<V: Values>(
-    alloc: Global,
-    f: &Function,
-    b: BlockId,
-    entry: &Option<State<V>>,
-) -> Result<Option<State<V>>, AllocError>
-    requires ready { IsReady f.now }
-    requires entry { ForSome entry.now (IsStateOf V.ty V.proper f.now) }
-    ensures end { IfOk result (λ o. option_map known o ≡ followed (before_end V.answers f.now b.0) (option_map known entry.now)) }
-    ensures state { IfOk result (λ o. ForSome o (IsStateOf V.ty V.proper f.now)) }
-{
-    match entry {
-        Some(entry) => end_of(alloc, f, b, entry),
-        None => Ok(None),
-    }
-}
-
-/// The state before the terminator of a block that an edge leaves, by its entry state; none is made of another block.
-fn end_entry<V: Values>(
-    alloc: Global,
-    f: &Function,
-    b: BlockId,
-    entry: &Option<State<V>>,
-) -> Result<Option<State<V>>, AllocError>
-    requires ready { IsReady f.now }
-    requires entry { ForSome entry.now (IsStateOf V.ty V.proper f.now) }
-    ensures end { IfOk result (λ o. (to : ℕ) → is_in to (successors f.now b.0) ≡ true →
-        option_map known o ≡ followed (before_end V.answers f.now b.0) (option_map known entry.now)) }
-    ensures state { IfOk result (λ o. ForSome o (IsStateOf V.ty V.proper f.now)) }
-{
-    let Some(_) = successor(f, b, 0) else {
-        return Ok(None);
-    };
-    let end = stepped(alloc, f, b, entry)?;
-    Ok(end)
-}
-
-/// What a pass has found: the entry states, and the states before the terminators of blocks that edges leave.
+/// What a pass has found: the entry states, and what the heads have got.
 #[derive(Drop)]
 struct Found<V: Values> {
     table: Table<V>,
-    ends: Table<V>,
+    got: Table<V>,
 }
 
 /// Sends states through the blocks of the order.
@@ -305,69 +221,69 @@ fn go<V: Values>(
     requires each { length heads.now ≡ length order.now }
     ensures table { IfOk result (λ p. (names : ℕ → ℕ → Bool) → IsLayout f.now (layout order.now names) → (b : ℕ) →
         kept_entries p.table b ≡ pass_table (flow_of V.answers f.now (layout order.now names)) (kept_in_order order.now heads.now) b) }
-    ensures ends { IfOk result (λ p. AreEnds V.answers f.now (kept_entries p.table) (kept_entries p.ends)) }
+    ensures got { IfOk result (λ p. (b : ℕ) → is_head f.now order.now b ≡ true →
+        kept_entries p.got b ≡ got_from V.answers f.now (kept_entries p.table) (numbers order.now) b) }
     ensures states { IfOk result (λ p. AreStates V.ty V.proper f.now p.table) }
-    ensures end_states { IfOk result (λ p. AreStates V.ty V.proper f.now p.ends) }
+    ensures got_states { IfOk result (λ p. AreStates V.ty V.proper f.now p.got) }
     ensures count { IfOk result (λ p. length p.table ≡ length f.now.blocks) }
 {
     let count = f.blocks.as_slice().len();
     let mut table: Table<V> = Table::empty(alloc, count)?;
-    let mut ends: Table<V> = Table::empty(alloc, count)?;
+    let mut got: Table<V> = Table::empty(alloc, count)?;
     'order: for place in 0..order.len() {
         let b = order[place];
-        let entry = entry_of(alloc, checked, f, order, &ends, b, &heads[place])?;
-        let end = end_entry(alloc, f, b, &entry)?;
+        let entry = entry_of(alloc, checked, f, order, &mut got, b, &heads[place])?;
+        send(alloc, f, &mut got, b, &entry)?;
         table.set(b, entry);
-        ends.set(b, end);
     }
-    Ok(Found { table, ends })
+    Ok(Found { table, got })
 }
 
-/// What a head gets; None for a block that is no head.
+/// What a head has got, cut to what its entry has in scope; None for a block that is no head.
 fn next_of<V: Values>(
-    alloc: Global,
     checked: &Checked,
     f: &Function,
     order: &[BlockId],
-    ends: &Table<V>,
+    got: &mut Table<V>,
     b: BlockId,
-) -> Result<Option<State<V>>, AllocError>
+) -> Option<State<V>>
     requires same { f.now ≡ checked.now }
-    requires ready { IsReady f.now }
     requires few { HasFewNames f.now }
     requires order { IsOrder f.now order.now }
-    requires states { AreStates V.ty V.proper f.now ends.now }
-    ensures next { IfOk result (λ o. (names : ℕ → Bool) → IsScopeAt f.now b.0 names → option_map known o ≡
-        (if is_head f.now order.now b.0 then option_map (kept_names names) (gathered (joined V.answers) (sent V.answers f.now (kept_entries ends.now) b.0) (numbers order.now) None) else None)) }
-    ensures state { IfOk result (λ o. ForSome o (IsStateOf V.ty V.proper f.now)) }
+    requires states { AreStates V.ty V.proper f.now got.old }
+    ensures next { (names : ℕ → Bool) → IsScopeAt f.now b.0 names → option_map known result ≡
+        (if is_head f.now order.now b.0 then option_map (kept_names names) (kept_entries got.old b.0) else None) }
+    ensures state { ForSome result (IsStateOf V.ty V.proper f.now) }
+    ensures others { (c : ℕ) → nat_eq c b.0 ≡ false → kept_entries got.new c ≡ kept_entries got.old c }
+    ensures states { AreStates V.ty V.proper f.now got.new }
 {
     if !is_head(checked, f, order, b) {
-        return Ok(None);
+        return None;
     }
-    met(alloc, checked, f, order, ends, b)
+    met(checked, f, got, b)
 }
 
-/// What heads get, one place for each block of the order.
+/// What heads have got, one place for each block of the order.
 fn all_next<V: Values>(
     alloc: Global,
     checked: &Checked,
     f: &Function,
     order: &[BlockId],
-    ends: &Table<V>,
+    got: &mut Table<V>,
 ) -> Result<Vec<Option<State<V>>>, AllocError>
     requires same { f.now ≡ checked.now }
-    requires ready { IsReady f.now }
     requires few { HasFewNames f.now }
     requires order { IsOrder f.now order.now }
-    requires states { AreStates V.ty V.proper f.now ends.now }
+    requires distinct { IsDistinct nat_eq (numbers order.now) }
+    requires states { AreStates V.ty V.proper f.now got.old }
     ensures count { IfOk result (λ v. length v.items ≡ length order.now) }
     ensures next { IfOk result (λ v. (names : ℕ → ℕ → Bool) → IsLayout f.now (layout order.now names) → (k : ℕ) → k < length order.now →
-        option_map known (entry_in v.items k) ≡ next_at V.answers f.now order.now (kept_entries ends.now) names (slice_index_or order.now k (record { 0 = 0 })).0) }
+        option_map known (entry_in v.items k) ≡ next_at f.now order.now (kept_entries got.old) names (slice_index_or order.now k (record { 0 = 0 })).0) }
     ensures states { IfOk result (λ v. AreStates V.ty V.proper f.now v.items) }
 {
     let mut next: Vec<Option<State<V>>> = Vec::new(alloc);
     'order: for place in 0..order.len() {
-        next.push(next_of(alloc, checked, f, order, ends, order[place])?)?;
+        next.push(next_of(checked, f, order, got, order[place]))?;
     }
     Ok(next)
 }
@@ -403,8 +319,8 @@ pub fn pass<V: Values>(
 {
     let function = ready(f);
     let order = f.order();
-    let found = go(alloc, f, function, order, heads)?;
-    let next = all_next(alloc, f, function, order, &found.ends)?;
+    let mut found = go(alloc, f, function, order, heads)?;
+    let next = all_next(alloc, f, function, order, &mut found.got)?;
     Ok(Passed {
         table: found.table,
         next: Items(next),

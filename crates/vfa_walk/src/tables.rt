@@ -1,6 +1,6 @@
 //! Tables: the entry state of each block.
 
-ghost use Rattle.std.specs.Prelude.{◌≡◌, ◌<◌, All, IfOk, length, slice_set};
+ghost use Rattle.std.specs.Prelude.{◌≡◌, ◌<◌, All, IfOk, None, length, slice_set};
 ghost use Rattle.std.specs.Option.{option_map};
 ghost use Rattle.vfa_cond.specs.States.{known};
 ghost use Rattle.vfa_walk.specs.Kept.{entry_in, kept_entries};
@@ -56,6 +56,17 @@ impl<V: Values> Table<V> {
             entries.push(None)?;
         }
         Ok(Table { entries })
+    }
+
+    /// Takes the state of a block out; none is left there.
+    pub(crate) fn take(&mut self, b: BlockId) -> Option<State<V>>
+        ensures taken { result ≡ entry_in self.old b.0 }
+        ensures left { self.new ≡ slice_set self.old b.0 None }
+    {
+        match self.entries.get_mut(b.0 as usize) {
+            Some(entry) => entry.take(),
+            None => None,
+        }
     }
 
     /// Makes this the entry state of a block.
