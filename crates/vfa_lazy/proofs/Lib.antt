@@ -1,0 +1,3 @@
+mod BlockEnds
+mod OneAnswer
+mod Told
