@@ -1,4 +1,4 @@
-//! What narrowing makes of states of facts, and the entry states of blocks by tables of facts. The facts that are expected
+//! What narrowing makes of states of facts, the entry states of blocks by tables of facts, and answers to questions. The facts that are expected
 //! were computed from their definitions by a program of its own.
 
 mod conditions;
@@ -6,6 +6,7 @@ mod depths;
 mod entries;
 mod narrowing;
 mod predicates;
+mod questions;
 mod rounds;
 mod shown;
 mod states;

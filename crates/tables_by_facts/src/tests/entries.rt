@@ -3,6 +3,7 @@
 use super::read;
 use super::shown::facts;
 use super::states::{entry, entry_from};
+use super::texts::{COUNTER, DEAD, STALE, SUM, SWITCH};
 use std::alloc::Global;
 use std::process::Abort;
 use vfa_ir::{BlockId, Outside};
@@ -44,18 +45,7 @@ fn check_entry_from(rt: &impl Abort, alloc: Global, text: &[u8], from: u32, to: 
 #[test]
 fn a_condition_on_a_sum_restricts_what_is_added_to(rt: HostRuntime) {
     let alloc = rt.alloc();
-    let text = b"define i8 @w(i8 %x) {
-entry:
-  %y = add i8 %x, -10
-  %c = icmp ult i8 %y, 5
-  br i1 %c, label %in, label %out
-
-in:
-  ret i8 %x
-
-out:
-  ret i8 %x
-}";
+    let text = SUM;
     check_entry(
         &rt,
         alloc,
@@ -81,22 +71,7 @@ out:
 #[test]
 fn a_counter_is_bounded_by_its_condition(rt: HostRuntime) {
     let alloc = rt.alloc();
-    let text = b"define i32 @count() {
-entry:
-  br label %head
-
-head:
-  %i = phi i32 [ 0, %entry ], [ %n, %body ]
-  %c = icmp ult i32 %i, 10
-  br i1 %c, label %body, label %exit
-
-body:
-  %n = add i32 %i, 1
-  br label %head
-
-exit:
-  ret i32 %i
-}";
+    let text = COUNTER;
     check_entry(
         &rt,
         alloc,
@@ -188,20 +163,7 @@ exit:
 #[test]
 fn a_condition_carried_by_a_phi_restricts_no_name_that_has_changed(rt: HostRuntime) {
     let alloc = rt.alloc();
-    let text = b"define i8 @stale(i8 %k) {
-entry:
-  br label %head
-
-head:
-  %a = phi i8 [ 0, %entry ], [ %b, %head ]
-  %c = phi i1 [ true, %entry ], [ %d, %head ]
-  %b = add i8 %a, %k
-  %d = icmp ult i8 %a, 5
-  br i1 %c, label %head, label %exit
-
-exit:
-  ret i8 %a
-}";
+    let text = STALE;
     check_entry(
         &rt,
         alloc,
@@ -229,20 +191,7 @@ exit:
 #[test]
 fn two_edges_from_one_block_are_joined(rt: HostRuntime) {
     let alloc = rt.alloc();
-    let text = b"define i8 @sw(i8 %x) {
-p:
-  switch i8 %x, label %other [
-    i8 1, label %join
-    i8 2, label %join
-  ]
-
-join:
-  %r = phi i8 [ %x, %p ], [ %x, %p ]
-  ret i8 %r
-
-other:
-  ret i8 0
-}";
+    let text = SWITCH;
     check_entry(
         &rt,
         alloc,
@@ -274,14 +223,7 @@ other:
 #[test]
 fn no_run_comes_behind_an_assumption_that_fails(rt: HostRuntime) {
     let alloc = rt.alloc();
-    let text = b"define i8 @dead(i8 %x) {
-entry:
-  call void @llvm.assume(i1 false)
-  br label %next
-
-next:
-  ret i8 %x
-}";
+    let text = DEAD;
     check_entry(
         &rt,
         alloc,
