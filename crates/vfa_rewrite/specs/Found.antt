@@ -1,3 +1,4 @@
+-- helper: in no public contract
 -- What was found out of a function, as it is kept: block by block, of each instruction that a run may come to what becomes of it
 -- and whether it may be undefined, whether a run may come to the terminator, and which edges a run may take.
 use Rattle.std.specs.Prelude.{◌≡◌, ℕ, Bool, true, false, Option, Some, None, List, length, slice_get, slice_index_or}
