@@ -1,3 +1,8 @@
 mod EachInput
+mod FormFits
+mod FormRows
+mod FormVerdict
+mod FormWalk
+mod FormWords
 mod SourceInputs
-mod Words
+mod Workers

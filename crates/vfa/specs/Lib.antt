@@ -1,5 +1,5 @@
-pub mod Asked
 pub mod Command
+pub mod Form
 pub mod Refusals
 pub mod Run
 pub mod Status

@@ -1,13 +1,15 @@
 //! The words of a command.
 
-ghost use Rattle.std.specs.Prelude.{◌≡◌, ◌↔◌, ℕ, [], Some, None, true, IfSome, codes};
+ghost use Rattle.std.specs.Prelude.{◌≡◌, ℕ, Some, IfOk, IfSome, option_map};
 ghost use Rattle.vfa_opt.specs.declared.jobs.Job.{Job as JobOf};
-ghost use Rattle.vfa.specs.declared.command.Expects.{Expects};
-ghost use Rattle.vfa.specs.declared.command.Expects.TheVariants.{AnyWord};
+ghost use Rattle.clap.specs.Words.{found_of, rows_of};
 ghost use Rattle.vfa.specs.declared.command.Command.{Command as Whole};
-ghost use Rattle.vfa.specs.Asked.{Complete, IsNext, TakesJob, GainsWorkers, GainsStrict, AwaitsWorkers, GainsName, LacksName};
-ghost use Rattle.vfa.specs.Command.{texts, job_word, is_option as begins_as_option, workers_name, IsWorkers, AreCommand};
+ghost use Rattle.vfa.specs.Command.{texts, job_word, IsWorkers, AreCommand};
+ghost use Rattle.vfa.specs.Form.{IsGiven, IsNumberBy, HasFlag};
 
+use crate::form::{JOB, STRICT, WORKERS, texts_of};
+use clap::ArgMatches;
+use std::alloc::{AllocError, Global};
 use vfa_opt::Job;
 
 /// The most digits that a number of workers is written with.
@@ -15,10 +17,6 @@ const MOST_DIGITS: usize = 10;
 
 /// The most workers.
 const MOST_WORKERS: u64 = 64;
-
-const STRICT: &str = "--strict";
-
-const WORKERS: &str = "--workers";
 
 /// A command.
 #[derive(Debug, Drop, PartialEq, Eq)]
@@ -29,36 +27,6 @@ pub struct Command {
     pub strict: bool,
     /// How many workers do the work on functions, 1 to 64.
     pub workers: u32,
-}
-
-/// What the next word may be.
-#[derive(Clone, Copy, Debug)]
-enum Expects {
-    /// A job or an option.
-    AnyWord,
-    /// The number of workers.
-    Workers,
-    /// A job: no option follows.
-    NoOption,
-}
-
-/// What some words ask for.
-#[derive(Debug, Drop)]
-struct Asked {
-    job: Option<Job>,
-    strict: bool,
-    workers: Option<u32>,
-    expects: Expects,
-}
-
-/// Whether the word begins with `-` and is not `-` alone.
-fn is_option(word: &str) -> bool
-    ensures { result ≡ begins_as_option word.now }
-{
-    match word.as_bytes() {
-        [b'-', _, ..] => true,
-        _ => false,
-    }
 }
 
 /// The number of workers, 1 to 64, that one to ten digits stand for; None for another text.
@@ -87,7 +55,7 @@ fn workers_of(digits: &str) -> Option<u32>
 /// The job of this name.
 fn job_of(word: &str) -> Option<Job>
     ensures named { IfSome result (λ job. word.now ≡ job_word job) }
-    ensures only { result ≡ None → (job : JobOf) → word.now ≡ job_word job → ⊥ }
+    ensures only { (job : JobOf) → word.now ≡ job_word job → result ≡ Some job }
 {
     if word == "opt" {
         return Some(Job::Opt);
@@ -98,160 +66,38 @@ fn job_of(word: &str) -> Option<Job>
     None
 }
 
-/// With a word that is no option.
-fn with_job(asked: Asked, word: &str) -> Option<Asked>
-    ensures { TakesJob asked word.now result }
+/// The job of the name that was given.
+fn job_given(word: Option<&str>) -> Option<Job>
+    ensures named { IfSome result (λ job. option_map (λ s. s.now) word.entry ≡ Some (job_word job)) }
+    ensures only { (job : JobOf) → option_map (λ s. s.now) word.entry ≡ Some (job_word job) → result ≡ Some job }
 {
-    if asked.job.is_some() {
-        return None;
-    }
-    let job = job_of(word)?;
-    Some(Asked {
-        job: Some(job),
-        ..asked
-    })
+    job_of(word?)
 }
 
-/// With a number of workers.
-fn with_workers(asked: Asked, digits: &str) -> Option<Asked>
-    ensures none { result ≡ None → asked.workers ≡ None → (n : ℕ) → IsWorkers digits.now n → ⊥ }
-    ensures some { IfSome result (GainsWorkers asked digits.now) }
+/// The number of workers by the text that was given, 1 where none was.
+fn workers_given(digits: Option<&str>) -> Option<u32>
+    ensures number { IfSome result (IsNumberBy (option_map (λ s. s.now) digits.entry)) }
+    ensures only { (n : ℕ) → IsNumberBy (option_map (λ s. s.now) digits.entry) n → result ≡ Some n }
 {
-    if asked.workers.is_some() {
-        return None;
-    }
-    let workers = workers_of(digits)?;
-    Some(Asked {
-        workers: Some(workers),
-        expects: Expects::AnyWord,
-        ..asked
-    })
-}
-
-/// With the word after `--workers`.
-fn with_value(asked: Asked, word: &str) -> Option<Asked>
-    requires { asked.expects ≡ Expects.Workers }
-    ensures { IsNext asked word.now result }
-{
-    if is_option(word) {
-        return None;
-    }
-    with_workers(asked, word)
-}
-
-/// With `--strict`.
-fn with_strict(asked: Asked) -> Option<Asked>
-    ensures none { result ≡ None → asked.strict ≡ true }
-    ensures some { IfSome result (GainsStrict asked) }
-{
-    if asked.strict {
-        return None;
-    }
-    Some(Asked {
-        strict: true,
-        ..asked
-    })
-}
-
-/// With `--workers`, whose value is the next word.
-fn with_workers_next(asked: Asked) -> Option<Asked>
-    ensures none { result ≡ None → asked.workers ≡ None → ⊥ }
-    ensures some { IfSome result (AwaitsWorkers asked) }
-{
-    if asked.workers.is_some() {
-        return None;
-    }
-    Some(Asked {
-        expects: Expects::Workers,
-        ..asked
-    })
-}
-
-/// With an option without a value.
-fn with_name(asked: Asked, name: &str) -> Option<Asked>
-    ensures none { result ≡ None → LacksName asked name.now }
-    ensures some { IfSome result (GainsName asked name.now) }
-{
-    if name == STRICT {
-        return with_strict(asked);
-    }
-    if name == WORKERS {
-        return with_workers_next(asked);
-    }
-    None
-}
-
-/// With an option and its value.
-fn with_name_and_value(asked: Asked, name: &str, value: &str) -> Option<Asked>
-    ensures none { result ≡ None → name.now ≡ workers_name → asked.workers ≡ None → (n : ℕ) → IsWorkers value.now n → ⊥ }
-    ensures some { IfSome result (λ more. (name.now ≡ workers_name) × GainsWorkers asked value.now more) }
-{
-    if name != WORKERS {
-        return None;
-    }
-    with_workers(asked, value)
-}
-
-/// With a word that is an option.
-fn with_option(asked: Asked, word: &str) -> Option<Asked>
-    requires expects { asked.expects ≡ AnyWord }
-    requires option { begins_as_option word.now ≡ true }
-    requires other { word.now ≡ codes "--" → ⊥ }
-    ensures { IsNext asked word.now result }
-{
-    match word.split_once('=') {
-        None => with_name(asked, word),
-        Some((name, value)) => with_name_and_value(asked, name, value),
+    match digits {
+        None => Some(1),
+        Some(digits) => workers_of(digits),
     }
 }
 
-/// With one more word where an option may stand.
-fn with_any_word(asked: Asked, word: &str) -> Option<Asked>
-    requires { asked.expects ≡ AnyWord }
-    ensures { IsNext asked word.now result }
+/// The command that the texts of the words stand for.
+fn command_given(matches: &ArgMatches<'_>) -> Option<Command>
+    requires { HasFlag (rows_of (found_of matches.now)) }
+    ensures given { IfSome result (IsGiven (rows_of (found_of matches.now))) }
+    ensures only { (command : Whole) → IsGiven (rows_of (found_of matches.now)) command → result ≡ Some command }
 {
-    if word == "--" {
-        return Some(Asked {
-            expects: Expects::NoOption,
-            ..asked
-        });
-    }
-    if is_option(word) {
-        return with_option(asked, word);
-    }
-    with_job(asked, word)
-}
-
-/// With one more word; None where no command has it there.
-fn with_word(asked: Asked, word: &str) -> Option<Asked>
-    ensures { IsNext asked word.now result }
-{
-    match asked.expects {
-        Expects::AnyWord => with_any_word(asked, word),
-        Expects::Workers => with_value(asked, word),
-        Expects::NoOption => with_job(asked, word),
-    }
-}
-
-/// Whether the next word is to be the number of workers.
-fn awaits_number(expects: Expects) -> bool
-    ensures { (result ≡ true) ↔ (expects ≡ Expects.Workers) }
-{
-    matches!(expects, Expects::Workers)
-}
-
-/// The command that is asked for where no more words follow.
-fn whole(asked: Asked) -> Option<Command>
-    ensures asked { IfSome result (Complete asked []) }
-    ensures only { (command : Whole) → Complete asked [] command → result ≡ Some command }
-{
-    if awaits_number(asked.expects) {
-        return None;
-    }
+    let job = job_given(matches.get_str(JOB))?;
+    let workers = workers_given(matches.get_str(WORKERS))?;
+    let strict = matches.get_flag(STRICT);
     Some(Command {
-        job: asked.job?,
-        strict: asked.strict,
-        workers: asked.workers.unwrap_or(1),
+        job,
+        strict,
+        workers,
     })
 }
 
@@ -259,18 +105,12 @@ fn whole(asked: Asked) -> Option<Command>
 ///
 /// A job, `opt` or `facts`, stands alone among the words that are no options. `--strict` and `--workers`, with a number from 1 to 64 as the
 /// next word or after `=`, stand at most once each. Behind `--` no word is an option.
-pub fn command_of(words: &[String]) -> Option<Command>
-    ensures asked { IfSome result (AreCommand (texts words.now)) }
-    ensures only { (command : Whole) → AreCommand (texts words.now) command → result ≡ Some command }
+pub fn command_of(alloc: Global, words: &[String]) -> Result<Option<Command>, AllocError>
+    ensures asked { IfOk result (λ asked. IfSome asked (AreCommand (texts words.now))) }
+    ensures only { IfOk result (λ asked. (command : Whole) → AreCommand (texts words.now) command → asked ≡ Some command) }
 {
-    let mut asked = Asked {
-        job: None,
-        strict: false,
-        workers: None,
-        expects: Expects::AnyWord,
-    };
-    'words: for word in words {
-        asked = with_word(asked, word.as_str())?;
+    match texts_of(alloc, words)? {
+        None => Ok(None),
+        Some(matches) => Ok(command_given(&matches)),
     }
-    whole(asked)
 }

@@ -2,6 +2,7 @@
 #![tactic(auto)]
 
 mod command;
+mod form;
 mod laws;
 mod refusals;
 mod run;

@@ -1,6 +1,6 @@
 //! The run of the program, from words and a source to a status.
 
-ghost use Rattle.std.specs.Prelude.{◌≡◌, ℕ, ◌≤◌, ◌⊎◌, ◌↔◌, List, IfOk, IfErr, OnOk, OnErr, length};
+ghost use Rattle.std.specs.Prelude.{◌≡◌, ℕ, ◌≤◌, ◌⊎◌, List, IfOk, IfErr, OnOk, OnErr, length};
 ghost use Rattle.vfa_io.specs.States.{change, SourceFailed, GaveAtMost, GaveMore, SinkFailed, Got, GotNothing};
 ghost use Rattle.vfa.specs.declared.command.Command.{Command};
 ghost use Rattle.vfa.specs.declared.refusals.Refusal.{Refusal};
@@ -218,8 +218,11 @@ pub fn vfa_run<R: AllocGlobal + Threads + Sync, S: Source, O: Sink, E: Sink, G: 
         IsRefused command input (change S.state source.old source.new) (change E.state err.old err.new) }
     ensures refused_writes_nothing { result ≡ Status.Refused → GotNothing (change O.state out.old out.new) }
 
-    // Usage: exactly where the words ask for no command. Nothing is read, out has nothing, and err has the usage line.
-    ensures usage { result ≡ Status.Usage ↔ ((command : Command) → AreCommand (texts words.now) command → ⊥) }
+    // Usage: only where the words ask for no command, and always there but for want of memory. Nothing is read, out has
+    // nothing, and err has the usage line.
+    ensures usage { result ≡ Status.Usage → (command : Command) → AreCommand (texts words.now) command → ⊥ }
+    ensures no_command { ((command : Command) → AreCommand (texts words.now) command → ⊥) →
+        (result ≡ Status.Usage) ⊎ (result ≡ Status.Memory) }
     ensures usage_says { result ≡ Status.Usage → Reports (change E.state err.old err.new) usage_line }
     ensures usage_reads_nothing { result ≡ Status.Usage → source.new ≡ source.old }
     ensures usage_writes_nothing { result ≡ Status.Usage → GotNothing (change O.state out.old out.new) }
@@ -260,9 +263,12 @@ pub fn vfa_run<R: AllocGlobal + Threads + Sync, S: Source, O: Sink, E: Sink, G: 
     ensures later { ((S.state source.old).faults ≤ (S.state source.new).faults)
         × ((O.state out.old).faults ≤ (O.state out.new).faults) × ((E.state err.old).faults ≤ (E.state err.new).faults) }
 {
-    let Some(command) = command_of(words) else {
-        say(err, USAGE);
-        return Status::Usage;
-    };
-    run_command(rt, &command, source, out, err, gate)
+    match command_of(rt.alloc(), words) {
+        Ok(Some(command)) => run_command(rt, &command, source, out, err, gate),
+        Ok(None) => {
+            say(err, USAGE);
+            Status::Usage
+        }
+        Err(_) => Status::Memory,
+    }
 }
