@@ -3,6 +3,7 @@
 mod carried;
 mod checked;
 mod faults;
+mod hostile;
 mod limits;
 mod optimised;
 mod printed;

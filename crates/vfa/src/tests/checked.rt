@@ -2,7 +2,7 @@
 use super::*;
 
 /// `%v` is defined on one of two ways to `r`.
-const HALF: &[u8] = b"define i8 @half(i1 %c, i8 %x) {
+pub const HALF: &[u8] = b"define i8 @half(i1 %c, i8 %x) {
 entry:
   br i1 %c, label %l, label %r
 l:

@@ -28,14 +28,14 @@ fn reads_as_many_names_as_allowed(rt: HostRuntime) -> Result<(), Fail> {
 
 /// How large a function is.
 #[derive(Clone, Copy)]
-struct Size {
-    results: u32,
-    blocks: u32,
-    cases: u32,
+pub struct Size {
+    pub results: u32,
+    pub blocks: u32,
+    pub cases: u32,
 }
 
 /// A function of this size: unused results, blocks that do nothing, and one switch.
-fn large<R: AllocGlobal>(rt: &R, size: Size) -> Result<Vec<u8>, Fail> {
+pub fn large<R: AllocGlobal>(rt: &R, size: Size) -> Result<Vec<u8>, Fail> {
     let mut text = b"define i32 @s(i32 %x) {\n".to_vec(rt.alloc())?;
     for k in 0..size.results {
         let line = format!(in rt.alloc(); "  %a{k} = xor i32 %x, 1\n")?;
