@@ -17,8 +17,8 @@ import sys
 import tempfile
 import time
 
-TOP = os.path.dirname(os.path.dirname(os.path.abspath(__file__)))
-PROGRAM = os.path.join(TOP, "crates", "vfa", "out", "vfa")
+from programs import given_program
+
 LIMIT = 16777216
 SECONDS = 10
 BYTES = 1_000_000_000
@@ -419,13 +419,7 @@ def main():
     if len(sys.argv) == 7 and sys.argv[1] == "--measure":
         measure(*sys.argv[2:])
         return 0
-    if len(sys.argv) > 2:
-        print(__doc__)
-        return 2
-    program = os.path.abspath(sys.argv[1]) if len(sys.argv) == 2 else PROGRAM
-    if not os.path.exists(program):
-        print(f"hostile.py: {program} is not built")
-        return 2
+    program = given_program(__doc__)
     with tempfile.TemporaryDirectory() as folder:
         failed = sum(check_streams(program, folder, case) for case in STREAMS)
         failed += sum(check(program, folder, name, make()) for name, make in CASES.items())

@@ -19,8 +19,9 @@ import subprocess
 import sys
 import tempfile
 
+from programs import given_program
+
 BENCH = os.path.dirname(os.path.abspath(__file__))
-PROGRAM = os.path.join(os.path.dirname(BENCH), "crates", "vfa", "out", "vfa")
 OUT_OF_MEMORY = 5
 SHOWN = 10
 
@@ -155,13 +156,7 @@ def check(program, library, case):
 
 
 def main():
-    if len(sys.argv) > 2:
-        print(__doc__)
-        return 2
-    program = os.path.abspath(sys.argv[1]) if len(sys.argv) == 2 else PROGRAM
-    if not os.path.exists(program):
-        print(f"refused_memory.py: {program} is not built")
-        return 2
+    program = given_program(__doc__)
     with tempfile.TemporaryDirectory() as folder:
         library = built(folder)
         if library is None:
