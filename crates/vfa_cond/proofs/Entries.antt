@@ -7,6 +7,7 @@ use Rattle.std.proofs.lemmas.List.Sorted.{IsPartitionedBy-leb}
 use Rattle.std.proofs.lemmas.List.Edits.{length-insert}
 use Rattle.std.proofs.lemmas.Bool.{cases_lt}
 use Rattle.std.proofs.lemmas.Bool.Decides.{nat_tests}
+use Rattle.std.proofs.lemmas.Option.{slice_get_within, get_or_from_slice_get}
 use Rattle.vfa_cond.specs.declared.state.Entry.{Entry}
 use Rattle.vfa_cond.specs.States.{AbstractState, Stored, fact_in, mark_in, Ascends}
 use Rattle.vfa_cond.specs.Places.{place_in, found}
@@ -50,6 +51,9 @@ module _ {V : Type 0} where
     | inr above ↦ grind (arith, nat_tests, absent rest (suc e.name.0) high v sorted.2)
   ]
 
+  pub found_there : (xs : List (Entry V)) (low high v i : ℕ) → Ascends low high xs → i ≡ place_in xs v → fact_in xs v ≡ found v (slice_get xs i)
+  found_there xs low high v i sorted is = fact_at xs low high v sorted ∙ ap (λ k. found v (slice_get xs k)) (sym is)
+
   at_least : (xs : List (Entry V)) (low high j : ℕ) (d : Entry V) → Ascends low high xs → j < length xs → low ≤ (get_or xs j d).name.0
   at_least [] low high j d sorted inside = absurd (omega (arith, inside))
   at_least (e ∷ rest) low high zero d sorted inside = sorted.0
@@ -69,6 +73,31 @@ module _ {V : Type 0} where
   point_is (e ∷ rest) v (suc i) le point =
       rw (point.0 0 e (omega arith) (omega arith))
       (ap suc (point_is rest v i (omega arith) ((λ k d low high. point.0 (suc k) d (omega arith) (omega arith)), (λ k d low high. point.1 (suc k) d (omega arith) (omega arith)))))
+
+  pub found_name : (v : ℕ) (d e : Entry V) → Some d ≡ Some e → v ≤ d.name.0 → v ≤ e.name.0
+  found_name v d e same le = let is : d ≡ e = cc in subst (λ (x : Entry V). v ≤ x.name.0) is le
+
+  -- the place behind a lesser name that has no lesser name at it, or the first place
+  pub first_place : (xs : List (Entry V)) (v : ℕ) → ((e : Entry V) → slice_get xs 0 ≡ Some e → v ≤ e.name.0) → 0 ≡ place_in xs v
+  first_place [] v none = refl
+  first_place (e ∷ rest) v none = let le : v ≤ e.name.0 = none e refl in grind (arith, nat_tests, le)
+
+  pub next_place : (xs : List (Entry V)) (low high v i : ℕ) (before : Entry V) → Ascends low high xs → slice_get xs i ≡ Some before → before.name.0 < v →
+      ((e : Entry V) → slice_get xs (suc i) ≡ Some e → v ≤ e.name.0) → suc i ≡ place_in xs v
+  next_place [] low high v i before sorted is less none = absurd cc
+  next_place (e ∷ rest) low high v zero before sorted is less none =
+      let same : e ≡ before = cc in
+      let below : e.name.0 < v = subst (λ (d : Entry V). d.name.0 < v) (sym same) less in
+      let more : 0 ≡ place_in rest v = first_place rest v none in
+      grind (arith, nat_tests, below, more)
+  next_place (e ∷ rest) low high v (suc i) before sorted is less none =
+      let inside : i < length rest = slice_get_within rest i before is in
+      let same : get_or rest i before ≡ before = get_or_from_slice_get rest i before before is in
+      let above : suc e.name.0 ≤ (get_or rest i before).name.0 = at_least rest (suc e.name.0) high i before sorted.2 inside in
+      let lower : suc e.name.0 ≤ before.name.0 = subst (λ (d : Entry V). suc e.name.0 ≤ d.name.0) same above in
+      let below : e.name.0 < v = omega (arith, lower, less) in
+      let more : suc i ≡ place_in rest v = next_place rest (suc e.name.0) high v i before sorted.2 is less none in
+      grind (arith, nat_tests, below, more)
 
   same_name : (x y : ℕ) (d : V) (b : Bool) → nat_eq x y ≡ b → IsSome (if b then Some d else None) → x ≡ y
   same_name x y d true t is = eqb-true x y t

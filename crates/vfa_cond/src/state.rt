@@ -1,6 +1,7 @@
 //! States: facts of names, and the names whose equations are live.
 
-ghost use Rattle.std.specs.Prelude.{◌≡◌, ◌<◌, All, [], IfOk, IsSome, length, slice_get};
+ghost use Rattle.std.specs.Prelude.{◌≡◌, ◌<◌, ◌≤◌, All, [], IfOk, IsSome, IsTrue, Some, false, length, slice_get};
+ghost use Rattle.vfa_cond.specs.declared.state.Entry.{Entry};
 ghost use Rattle.vfa_cond.specs.Places.{place_in, found};
 ghost use Rattle.vfa_cond.specs.States.{known, name_count, fact_in, IsRoomy, KeepsRoom, with_fact, with_live, given, AreGiven};
 
@@ -95,11 +96,18 @@ impl<V: Values> State<V> {
     pub fn fact(&self, v: ValueId) -> Option<V>
         ensures { result ≡ (known self.now).fact v.0 }
     {
-        let entry = self.entries.get(self.place_of(v))?;
-        if entry.name != v {
-            return None;
-        }
-        Some(entry.fact)
+        let place = self.place_of(v);
+        self.fact_at(v, place)
+    }
+
+    /// The name's fact; None exactly where it has none. Whatever stands in `near`, the answer is that of `fact`, which is quick
+    /// where the last name that was looked up by the same `near` is the next one, above or below.
+    pub fn fact_near(&self, v: ValueId, near: &mut usize) -> Option<V>
+        ensures { result ≡ (known self.now).fact v.0 }
+    {
+        let place = self.place_near(v, *near);
+        *near = place;
+        self.fact_at(v, place)
     }
 
     /// Whether the name's equation is live.
@@ -117,10 +125,21 @@ impl<V: Values> State<V> {
         ensures change { known self.new ≡ with_fact (known self.old) v.0 fact }
         ensures room { KeepsRoom self.old self.new }
     {
-        match fact {
-            Some(fact) => self.give(v, fact),
-            None => self.drop_fact(v),
-        }
+        let place = self.place_of(v);
+        self.put_at(v, fact, place);
+    }
+
+    /// Gives the name this fact, or none, and changes nothing else. Whatever stands in `near`, it does what `put` does, quickly
+    /// where the last name that was looked up by the same `near` is this one, or the next one, above or below.
+    pub fn put_near(&mut self, v: ValueId, fact: Option<V>, near: &mut usize)
+        requires range { v.0 < name_count self.old }
+        requires room { (known self.old).fact v.0 ≡ None → IsSome fact → IsRoomy self.old }
+        ensures change { known self.new ≡ with_fact (known self.old) v.0 fact }
+        ensures room { KeepsRoom self.old self.new }
+    {
+        let place = self.place_near(v, *near);
+        *near = place;
+        self.put_at(v, fact, place);
     }
 
     /// Makes the name's equation live or ends it, and changes nothing else. The name is the function's.
@@ -140,26 +159,102 @@ impl<V: Values> State<V> {
         self.entries.partition_point(|entry| entry.name.0 < v.0)
     }
 
-    /// Gives the name this fact.
-    fn give(&mut self, v: ValueId, fact: V)
-        requires range { v.0 < name_count self.old }
-        requires room { (known self.old).fact v.0 ≡ None → IsRoomy self.old }
-        ensures change { known self.new ≡ with_fact (known self.old) v.0 (Some fact) }
-        ensures room { KeepsRoom self.old self.new }
+    /// Whether a name below this one stands at this place.
+    fn is_lesser(&self, v: ValueId, place: usize) -> bool
+        ensures some { IsTrue result → (e : Entry V) × (slice_get self.now.entries place ≡ Some e) × (e.name.0 < v.0) }
+        ensures none { result ≡ false → (e : Entry V) → slice_get self.now.entries place ≡ Some e → v.0 ≤ e.name.0 }
     {
-        match self.fact(v) {
-            Some(_) => self.replace(v, fact),
-            None => self.add(v, fact),
+        match self.entries.get(place) {
+            Some(entry) => entry.name.0 < v.0,
+            None => false,
         }
     }
 
-    /// Takes the fact of the name away, if it has one.
-    fn drop_fact(&mut self, v: ValueId)
+    /// Whether the names that stand before this place are those below the name.
+    fn is_place(&self, v: ValueId, place: usize) -> bool
+        ensures place { IsTrue result → place ≡ place_in self.now.entries v.0 }
+        ensures found { IsTrue result → (known self.now).fact v.0 ≡ found v.0 (slice_get self.now.entries place) }
+    {
+        let _ = &self.entries;
+        if self.is_lesser(v, place) {
+            return false;
+        }
+        if place == 0 {
+            return true;
+        }
+        self.is_lesser(v, place - 1)
+    }
+
+    /// How many names that have a fact stand before the name, by a guess that is tried first, and the places beside it.
+    fn place_near(&self, v: ValueId, guess: usize) -> usize
+        ensures place { result ≡ place_in self.now.entries v.0 }
+        ensures found { (known self.now).fact v.0 ≡ found v.0 (slice_get self.now.entries result) }
+    {
+        if self.is_place(v, guess) {
+            return guess;
+        }
+        let below = guess.saturating_sub(1);
+        if self.is_place(v, below) {
+            return below;
+        }
+        let above = guess.saturating_add(1);
+        if self.is_place(v, above) {
+            return above;
+        }
+        self.place_of(v)
+    }
+
+    /// The fact of the name that belongs at this place.
+    fn fact_at(&self, v: ValueId, place: usize) -> Option<V>
+        requires { (known self.now).fact v.0 ≡ found v.0 (slice_get self.now.entries place) }
+        ensures { result ≡ (known self.now).fact v.0 }
+    {
+        let entry = self.entries.get(place)?;
+        if entry.name != v {
+            return None;
+        }
+        Some(entry.fact)
+    }
+
+    /// Gives the name that belongs at this place this fact, or none.
+    fn put_at(&mut self, v: ValueId, fact: Option<V>, place: usize)
+        requires range { v.0 < name_count self.old }
+        requires room { (known self.old).fact v.0 ≡ None → IsSome fact → IsRoomy self.old }
+        requires belongs { place ≡ place_in self.old.entries v.0 }
+        requires found { (known self.old).fact v.0 ≡ found v.0 (slice_get self.old.entries place) }
+        ensures change { known self.new ≡ with_fact (known self.old) v.0 fact }
+        ensures room { KeepsRoom self.old self.new }
+    {
+        match fact {
+            Some(fact) => self.give(v, fact, place),
+            None => self.drop_fact(v, place),
+        }
+    }
+
+    /// Gives the name that belongs at this place this fact.
+    fn give(&mut self, v: ValueId, fact: V, place: usize)
+        requires range { v.0 < name_count self.old }
+        requires room { (known self.old).fact v.0 ≡ None → IsRoomy self.old }
+        requires belongs { place ≡ place_in self.old.entries v.0 }
+        requires found { (known self.old).fact v.0 ≡ found v.0 (slice_get self.old.entries place) }
+        ensures change { known self.new ≡ with_fact (known self.old) v.0 (Some fact) }
+        ensures room { KeepsRoom self.old self.new }
+    {
+        match self.fact_at(v, place) {
+            Some(_) => self.replace_at(v, fact, place),
+            None => self.add(v, fact, place),
+        }
+    }
+
+    /// Takes the fact of the name that belongs at this place away, if it has one.
+    fn drop_fact(&mut self, v: ValueId, place: usize)
+        requires belongs { place ≡ place_in self.old.entries v.0 }
+        requires found { (known self.old).fact v.0 ≡ found v.0 (slice_get self.old.entries place) }
         ensures change { known self.new ≡ with_fact (known self.old) v.0 None }
         ensures room { KeepsRoom self.old self.new }
     {
-        match self.fact(v) {
-            Some(_) => self.take(v),
+        match self.fact_at(v, place) {
+            Some(_) => self.take(v, place),
             None => {}
         }
     }
@@ -172,31 +267,45 @@ impl<V: Values> State<V> {
         ensures room { KeepsRoom self.old self.new }
     {
         let place = self.place_of(v);
-        self.entries[place] = Entry { name: v, fact };
+        self.replace_at(v, fact, place);
     }
 
-    /// Gives a name that has no fact this one.
-    fn add(&mut self, v: ValueId, fact: V)
-        requires none { (known self.old).fact v.0 ≡ None }
-        requires range { v.0 < name_count self.old }
-        requires room { IsRoomy self.old }
+    /// Gives a name that has a fact, and stands at this place, this one.
+    fn replace_at(&mut self, v: ValueId, fact: V, place: usize)
+        requires some { IsSome ((known self.old).fact v.0) }
+        requires belongs { place ≡ place_in self.old.entries v.0 }
+        requires found { (known self.old).fact v.0 ≡ found v.0 (slice_get self.old.entries place) }
+        ensures range { v.0 < name_count self.old }
         ensures change { known self.new ≡ with_fact (known self.old) v.0 (Some fact) }
         ensures room { KeepsRoom self.old self.new }
     {
-        let place = self.place_of(v);
+        self.entries[place] = Entry { name: v, fact };
+    }
+
+    /// Gives a name that has no fact, and belongs at this place, this one.
+    fn add(&mut self, v: ValueId, fact: V, place: usize)
+        requires none { (known self.old).fact v.0 ≡ None }
+        requires range { v.0 < name_count self.old }
+        requires room { IsRoomy self.old }
+        requires belongs { place ≡ place_in self.old.entries v.0 }
+        requires found { (known self.old).fact v.0 ≡ found v.0 (slice_get self.old.entries place) }
+        ensures change { known self.new ≡ with_fact (known self.old) v.0 (Some fact) }
+        ensures room { KeepsRoom self.old self.new }
+    {
         match self.entries.insert(place, Entry { name: v, fact }) {
             Ok(()) => {}
             Err(_) => unreachable!(),
         }
     }
 
-    /// Takes the fact of a name that has one.
-    fn take(&mut self, v: ValueId)
-        requires { IsSome ((known self.old).fact v.0) }
+    /// Takes the fact of a name that has one, and stands at this place.
+    fn take(&mut self, v: ValueId, place: usize)
+        requires some { IsSome ((known self.old).fact v.0) }
+        requires belongs { place ≡ place_in self.old.entries v.0 }
+        requires found { (known self.old).fact v.0 ≡ found v.0 (slice_get self.old.entries place) }
         ensures change { known self.new ≡ with_fact (known self.old) v.0 None }
         ensures room { KeepsRoom self.old self.new }
     {
-        let place = self.place_of(v);
         let _ = self.entries.remove(place);
     }
 }

@@ -9,12 +9,12 @@ use Rattle.vfa_walk.specs.Joining.{of_both, covered}
 use Rattle.vfa_walk.specs.Kept.{IsStateOf, taken}
 use Rattle.vfa_walk.proofs.States.{state_is, none_live_beyond}
 
--- below the place the names are taken over from another state, the rest is as before
-pub record IsTakenBelow {V : Type 0} (i : ℕ) (now old from : AbstractState V) : Type 0 where
-  pub facts_below : (u : ℕ) → u < i → now.fact u ≡ from.fact u
-  pub facts_rest : (u : ℕ) → i ≤ u → now.fact u ≡ old.fact u
-  pub live_below : (u : ℕ) → u < i → now.live u ≡ from.live u
-  pub live_rest : (u : ℕ) → i ≤ u → now.live u ≡ old.live u
+-- from the place on the names are taken over from another state, the rest is as before
+pub record IsTakenFrom {V : Type 0} (i : ℕ) (now old from : AbstractState V) : Type 0 where
+  pub facts_from : (u : ℕ) → i ≤ u → now.fact u ≡ from.fact u
+  pub facts_rest : (u : ℕ) → u < i → now.fact u ≡ old.fact u
+  pub live_from : (u : ℕ) → i ≤ u → now.live u ≡ from.live u
+  pub live_rest : (u : ℕ) → u < i → now.live u ≡ old.live u
 
 pick_yes : {A : Type 0} (b : Bool) (x y : A) → b ≡ true → (if b then x else y) ≡ x
 pick_yes true x y h = refl
@@ -31,49 +31,41 @@ same_number : (i : ℕ) → nat_eq i i ≡ true
 same_number i = grind (arith, nat_tests)
 
 module _ {V : Type 0} where
-  pub taken_none : (old from : AbstractState V) → IsTakenBelow 0 old old from
-  taken_none old from = record {
-    facts_below = λ u below. absurd (omega arith);
+  -- beyond all names both know nothing
+  pub taken_none : (n : ℕ) (old from : AbstractState V) → ((u : ℕ) → n ≤ u → old.fact u ≡ from.fact u) → ((u : ℕ) → n ≤ u → old.live u ≡ from.live u) → IsTakenFrom n old old from
+  taken_none n old from facts live = record {
+    facts_from = facts;
     facts_rest = λ u _. refl;
-    live_below = λ u below. absurd (omega arith);
+    live_from = live;
     live_rest = λ u _. refl;
   }
 
-  -- the part of the next name is taken over
-  pub taken_more : (i : ℕ) (now old from here next : AbstractState V) → IsTakenBelow i now old from → next ≡ taken i here now →
-      here.fact i ≡ from.fact i → here.live i ≡ from.live i → IsTakenBelow (i + 1) next old from
-  taken_more i now old from here next sofar change fact live = record {
-    facts_below = λ u below. ap (λ s. s.fact u) change ∙ fact_below u below (cases_lt u i);
-    facts_rest = λ u above. ap (λ s. s.fact u) change ∙ (pick_no (nat_eq u i) (here.fact i) (now.fact u) (apart u i (λ e. omega arith)) ∙ sofar.facts_rest u (omega arith));
-    live_below = λ u below. ap (λ s. s.live u) change ∙ live_below u below (cases_lt u i);
-    live_rest = λ u above. ap (λ s. s.live u) change ∙ (pick_no (nat_eq u i) (here.live i) (now.live u) (apart u i (λ e. omega arith)) ∙ sofar.live_rest u (omega arith));
+  -- the part of the name before is taken over
+  pub taken_more : (i j : ℕ) (now old from here next : AbstractState V) → j ≡ i + 1 → IsTakenFrom j now old from → next ≡ taken i here now →
+      here.fact i ≡ from.fact i → here.live i ≡ from.live i → IsTakenFrom i next old from
+  taken_more i j now old from here next before sofar change fact live = record {
+    facts_from = λ u above. ap (λ s. s.fact u) change ∙ fact_from u above (cases_lt i u);
+    facts_rest = λ u below. ap (λ s. s.fact u) change ∙ (pick_no (nat_eq u i) (here.fact i) (now.fact u) (apart u i (λ e. omega arith)) ∙ sofar.facts_rest u (omega arith));
+    live_from = λ u above. ap (λ s. s.live u) change ∙ live_from u above (cases_lt i u);
+    live_rest = λ u below. ap (λ s. s.live u) change ∙ (pick_no (nat_eq u i) (here.live i) (now.live u) (apart u i (λ e. omega arith)) ∙ sofar.live_rest u (omega arith));
   }
     where
-      fact_below : (u : ℕ) → u < i + 1 → (u < i) ⊎ (i ≤ u) → (if nat_eq u i then here.fact i else now.fact u) ≡ from.fact u
-      fact_below u below (inl less) = pick_no (nat_eq u i) (here.fact i) (now.fact u) (apart u i (λ e. omega arith)) ∙ sofar.facts_below u less
-      fact_below u below (inr more) =
+      fact_from : (u : ℕ) → i ≤ u → (i < u) ⊎ (u ≤ i) → (if nat_eq u i then here.fact i else now.fact u) ≡ from.fact u
+      fact_from u above (inl more) = pick_no (nat_eq u i) (here.fact i) (now.fact u) (apart u i (λ e. omega arith)) ∙ sofar.facts_from u (omega (arith, more, before))
+      fact_from u above (inr less) =
           let e : u ≡ i = omega arith in
           subst (λ k. (if nat_eq k i then here.fact i else now.fact k) ≡ from.fact k) (sym e) (pick_yes (nat_eq i i) (here.fact i) (now.fact i) (same_number i) ∙ fact)
 
-      live_below : (u : ℕ) → u < i + 1 → (u < i) ⊎ (i ≤ u) → (if nat_eq u i then here.live i else now.live u) ≡ from.live u
-      live_below u below (inl less) = pick_no (nat_eq u i) (here.live i) (now.live u) (apart u i (λ e. omega arith)) ∙ sofar.live_below u less
-      live_below u below (inr more) =
+      live_from : (u : ℕ) → i ≤ u → (i < u) ⊎ (u ≤ i) → (if nat_eq u i then here.live i else now.live u) ≡ from.live u
+      live_from u above (inl more) = pick_no (nat_eq u i) (here.live i) (now.live u) (apart u i (λ e. omega arith)) ∙ sofar.live_from u (omega (arith, more, before))
+      live_from u above (inr less) =
           let e : u ≡ i = omega arith in
           subst (λ k. (if nat_eq k i then here.live i else now.live k) ≡ from.live k) (sym e) (pick_yes (nat_eq i i) (here.live i) (now.live i) (same_number i) ∙ live)
 
-  -- all names are taken over, and beyond them both know nothing
-  pub taken_all : (n : ℕ) (now old from : AbstractState V) → IsTakenBelow n now old from →
-      ((u : ℕ) → n ≤ u → old.fact u ≡ from.fact u) → ((u : ℕ) → n ≤ u → old.live u ≡ from.live u) → now ≡ from
-  taken_all n now old from all facts live =
-      state_is now from (λ u. fact_at u (cases_lt u n)) (λ u. live_at u (cases_lt u n))
-    where
-      fact_at : (u : ℕ) → (u < n) ⊎ (n ≤ u) → now.fact u ≡ from.fact u
-      fact_at u (inl less) = all.facts_below u less
-      fact_at u (inr more) = all.facts_rest u more ∙ facts u more
-
-      live_at : (u : ℕ) → (u < n) ⊎ (n ≤ u) → now.live u ≡ from.live u
-      live_at u (inl less) = all.live_below u less
-      live_at u (inr more) = all.live_rest u more ∙ live u more
+  -- all names are taken over
+  pub taken_all : (n : ℕ) (now old from : AbstractState V) → n ≡ 0 → IsTakenFrom n now old from → now ≡ from
+  taken_all n now old from none all =
+      state_is now from (λ u. all.facts_from u (omega (arith, none))) (λ u. all.live_from u (omega (arith, none)))
 
   -- what covers two states, beyond the names of the function
   module _ (ty : V → Ty) (proper : V → Type 0) (f : Function) (s : Stored V) (is : IsStateOf ty proper f s) where

@@ -14,6 +14,7 @@ ghost use Rattle.vfa_walk.specs.Kept.{AreStates, IsStateOf, entry_in, kept_in_or
 ghost use Rattle.vfa_walk.specs.Marks.{AreMarksOf};
 ghost use Rattle.vfa_walk.specs.Passes.{merged};
 
+use crate::joining::Near;
 use crate::marks::Marks;
 use crate::passes::is_head;
 use crate::ready::ready;
@@ -97,16 +98,23 @@ fn all_widened<V: Values>(
 }
 
 /// Whether a name has the same fact in two states, or none in both.
-fn same_fact<V: Values>(f: &Function, a: &State<V>, b: &State<V>, v: ValueId) -> bool
+fn same_fact<V: Values>(
+    f: &Function,
+    a: &State<V>,
+    b: &State<V>,
+    v: ValueId,
+    near: &mut Near,
+) -> bool
     requires first { AreFacts V.ty V.proper f.now (known a.now) }
     requires second { AreFacts V.ty V.proper f.now (known b.now) }
     ensures { MatchBool result ((known a.now).fact v.0 ≡ (known b.now).fact v.0) ((known a.now).fact v.0 ≡ (known b.now).fact v.0 → ⊥) }
 {
     let _ = f;
-    let Some(first) = a.fact(v) else {
-        return b.fact(v).is_none();
+    let second = b.fact_near(v, &mut near.second);
+    let Some(first) = a.fact_near(v, &mut near.first) else {
+        return second.is_none();
     };
-    let Some(second) = b.fact(v) else {
+    let Some(second) = second else {
         return false;
     };
     first.same(&second)
@@ -120,13 +128,19 @@ fn same_mark(a: bool, b: bool) -> bool
 }
 
 /// Whether two states know the same of a name.
-fn same_name<V: Values>(f: &Function, a: &State<V>, b: &State<V>, v: ValueId) -> bool
+fn same_name<V: Values>(
+    f: &Function,
+    a: &State<V>,
+    b: &State<V>,
+    v: ValueId,
+    near: &mut Near,
+) -> bool
     requires first { AreFacts V.ty V.proper f.now (known a.now) }
     requires second { AreFacts V.ty V.proper f.now (known b.now) }
     ensures { MatchBool result (((known a.now).fact v.0 ≡ (known b.now).fact v.0) × ((known a.now).live v.0 ≡ (known b.now).live v.0)) (known a.now ≡ known b.now → ⊥) }
 {
     if same_mark(a.live(v), b.live(v)) {
-        return same_fact(f, a, b, v);
+        return same_fact(f, a, b, v, near);
     }
     false
 }
@@ -138,8 +152,12 @@ fn same_state<V: Values>(f: &Function, a: &State<V>, b: &State<V>) -> bool
     requires few { length f.now.values ≤ 2 ^ 28 }
     ensures { MatchBool result (known a.now ≡ known b.now) (known a.now ≡ known b.now → ⊥) }
 {
+    let mut near = Near {
+        first: 0,
+        second: 0,
+    };
     'names: for v in 0..f.values.as_slice().len() {
-        if !same_name(f, a, b, ValueId(v as u32)) {
+        if !same_name(f, a, b, ValueId(v as u32), &mut near) {
             return false;
         }
     }

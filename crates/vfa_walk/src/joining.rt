@@ -13,18 +13,32 @@ use vfa_cond::State;
 use vfa_ir::{Function, ValueId};
 use vfa_values::Values;
 
+/// About where a name stands in two states. Names that are looked up one after another, each next to the one before, are found
+/// at once.
+#[derive(Clone, Copy, Debug)]
+pub(crate) struct Near {
+    pub(crate) first: usize,
+    pub(crate) second: usize,
+}
+
 /// What covers the facts that a name has in two states.
-fn joined_fact<V: Values>(f: &Function, a: &State<V>, b: &State<V>, v: ValueId) -> Option<V>
+fn joined_fact<V: Values>(
+    f: &Function,
+    a: &State<V>,
+    b: &State<V>,
+    v: ValueId,
+    near: &mut Near,
+) -> Option<V>
     requires first { AreFacts V.ty V.proper f.now (known a.now) }
     requires second { AreFacts V.ty V.proper f.now (known b.now) }
     ensures fact { result ≡ (joined V.answers (known a.now) (known b.now)).fact v.0 }
     ensures of_type { ForSome result (IsOf V.ty V.proper (name_type f.now v.0)) }
 {
     let _ = f;
-    let Some(first) = a.fact(v) else {
+    let Some(first) = a.fact_near(v, &mut near.first) else {
         return None;
     };
-    let Some(second) = b.fact(v) else {
+    let Some(second) = b.fact_near(v, &mut near.second) else {
         return None;
     };
     Some(first.join(&second))
@@ -37,6 +51,7 @@ pub(crate) fn take_over<V: Values>(
     v: ValueId,
     fact: Option<V>,
     live: bool,
+    near: &mut usize,
 )
     requires state { IsStateOf V.ty V.proper f.now state.old }
     requires name { v.0 < length f.now.values }
@@ -45,12 +60,18 @@ pub(crate) fn take_over<V: Values>(
     ensures live { (known state.new).live ≡ (with_live (known state.old) v.0 live).live }
     ensures state { IsStateOf V.ty V.proper f.now state.new }
 {
-    state.put(v, fact);
+    state.put_near(v, fact, near);
     state.set_live(v, live);
 }
 
 /// Joins what two states know of a name.
-fn join_name<V: Values>(state: &mut State<V>, f: &Function, other: &State<V>, v: ValueId)
+fn join_name<V: Values>(
+    state: &mut State<V>,
+    f: &Function,
+    other: &State<V>,
+    v: ValueId,
+    near: &mut Near,
+)
     requires state { IsStateOf V.ty V.proper f.now state.old }
     requires other { IsStateOf V.ty V.proper f.now other.now }
     requires name { v.0 < length f.now.values }
@@ -58,8 +79,8 @@ fn join_name<V: Values>(state: &mut State<V>, f: &Function, other: &State<V>, v:
     ensures state { IsStateOf V.ty V.proper f.now state.new }
 {
     let live = state.live(v) & other.live(v);
-    let fact = joined_fact(f, state, other, v);
-    take_over(state, f, v, fact, live);
+    let fact = joined_fact(f, state, other, v, near);
+    take_over(state, f, v, fact, live, &mut near.first);
 }
 
 /// Makes of a state the join with another.
@@ -70,8 +91,13 @@ pub(crate) fn join<V: Values>(state: &mut State<V>, f: &Function, other: &State<
     ensures change { known state.new ≡ joined V.answers (known state.old) (known other.now) }
     ensures state { IsStateOf V.ty V.proper f.now state.new }
 {
-    'names: for v in 0..f.values.as_slice().len() {
-        join_name(state, f, other, ValueId(v as u32));
+    let mut near = Near {
+        first: 0,
+        second: 0,
+    };
+    // the last names first, so that what is taken away stands near the end
+    'names: for v in (0..f.values.as_slice().len()).rev() {
+        join_name(state, f, other, ValueId(v as u32), &mut near);
     }
 }
 

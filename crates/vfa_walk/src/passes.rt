@@ -53,6 +53,7 @@ fn cut_name<V: Values>(
     f: &Function,
     b: BlockId,
     v: ValueId,
+    near: &mut usize,
 )
     requires same { f.now ≡ checked.now }
     requires state { IsStateOf V.ty V.proper f.now state.old }
@@ -64,7 +65,7 @@ fn cut_name<V: Values>(
     if checked.defined(b, v) {
         return;
     }
-    take_over(state, f, v, None, false);
+    take_over(state, f, v, None, false, near);
 }
 
 /// Keeps of a state what the entry of a block has in scope.
@@ -76,8 +77,10 @@ fn cut<V: Values>(state: &mut State<V>, checked: &Checked, f: &Function, b: Bloc
         known state.new ≡ kept_names names (known state.old) }
     ensures state { IsStateOf V.ty V.proper f.now state.new }
 {
-    'names: for v in 0..f.values.as_slice().len() {
-        cut_name(state, checked, f, b, ValueId(v as u32));
+    let mut near: usize = 0;
+    // the last names first, so that what is taken away stands near the end
+    'names: for v in (0..f.values.as_slice().len()).rev() {
+        cut_name(state, checked, f, b, ValueId(v as u32), &mut near);
     }
 }
 

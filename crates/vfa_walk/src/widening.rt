@@ -10,7 +10,7 @@ ghost use Rattle.vfa_walk.specs.Kept.{IsStateOf, taken};
 ghost use Rattle.vfa_walk.specs.Marks.{AreMarksOf};
 ghost use Rattle.vfa_walk.specs.Passes.{merged};
 
-use crate::joining::take_over;
+use crate::joining::{Near, take_over};
 use crate::marks::Marks;
 use crate::pairs::same;
 use crate::passes::{copied, type_of};
@@ -35,6 +35,7 @@ fn widened_fact<V: Values>(
     v: ValueId,
     round: u32,
     marks: &Marks,
+    near: &mut Near,
 ) -> Option<V>
     requires first { AreFacts V.ty V.proper f.now (known old.now) }
     requires second { AreFacts V.ty V.proper f.now (known new.now) }
@@ -43,10 +44,10 @@ fn widened_fact<V: Values>(
     ensures fact { result ≡ (widened V.answers f.now round (known old.now) (known new.now)).fact v.0 }
     ensures of_type { ForSome result (IsOf V.ty V.proper (name_type f.now v.0)) }
 {
-    let Some(first) = old.fact(v) else {
+    let Some(first) = old.fact_near(v, &mut near.first) else {
         return None;
     };
-    let Some(second) = new.fact(v) else {
+    let Some(second) = new.fact_near(v, &mut near.second) else {
         return None;
     };
     Some(first.widen(&second, round, marks.at(width_of(type_of(f, v)))))
@@ -60,6 +61,7 @@ fn widen_name<V: Values>(
     v: ValueId,
     round: u32,
     marks: &Marks,
+    near: &mut Near,
 )
     requires state { IsStateOf V.ty V.proper f.now state.old }
     requires new { IsStateOf V.ty V.proper f.now new.now }
@@ -70,8 +72,8 @@ fn widen_name<V: Values>(
     ensures state { IsStateOf V.ty V.proper f.now state.new }
 {
     let live = state.live(v) & new.live(v);
-    let fact = widened_fact(f, state, new, v, round, marks);
-    take_over(state, f, v, fact, live);
+    let fact = widened_fact(f, state, new, v, round, marks, near);
+    take_over(state, f, v, fact, live, &mut near.first);
 }
 
 /// Widens the old state of a head by the new one.
@@ -90,8 +92,12 @@ pub(crate) fn widen<V: Values>(
     ensures change { known state.new ≡ widened V.answers f.now round (known state.old) (known new.now) }
     ensures state { IsStateOf V.ty V.proper f.now state.new }
 {
-    'names: for v in 0..f.values.as_slice().len() {
-        widen_name(state, f, new, ValueId(v as u32), round, marks);
+    let mut near = Near {
+        first: 0,
+        second: 0,
+    };
+    'names: for v in (0..f.values.as_slice().len()).rev() {
+        widen_name(state, f, new, ValueId(v as u32), round, marks, &mut near);
     }
 }
 

@@ -11,7 +11,7 @@ use Rattle.vfa_walk.proofs.widening.widened_fact.Goals as goal
 pub widen-requires-clause-alike : goal.widen-requires-clause-alike
 widen-requires-clause-alike g c =
     let first = c.requires.first c.args.v.0 c.in-Some.first (sym c.in-Some.ensures) in
-    let second = c.requires.second c.args.v.0 c.in-Some-fact.second (sym c.in-Some-fact.ensures) in
+    let second = c.requires.second c.args.v.0 c.in-Some-fact_near.second (sym c.in-Some-fact_near.ensures) in
     record { first = first.is_proper; second = second.is_proper; same_type = first.typed ∙ sym second.typed }
 
 pub widen-requires-clause-landmarks : goal.widen-requires-clause-landmarks
@@ -34,8 +34,8 @@ returns-clause-fact g c =
     let w : c.width_of.result ≡ width_of t = c.width_of.ensures ∙ ap width_of c.type_of.ensures in
     let m : c.at.result.now ≡ landmarks f (width_of t) = c.at.ensures ∙ (ap (λ k. get_or c.args.marks.now k []) w ∙ c.requires.marks (width_of t) width) in
     let cover = λ (a b : _). answers.widen a b c.args.round (landmarks f (width_of t)) in
-    ap Some (c.widen.ensures ∙ ap (answers.widen c.in-Some.first c.in-Some-fact.second c.args.round) m)
-    ∙ (ap (λ o. of_both cover o (Some c.in-Some-fact.second)) c.in-Some.ensures ∙ ap (of_both cover ((known c.args.old.now).fact c.args.v.0)) c.in-Some-fact.ensures)
+    ap Some (c.widen.ensures ∙ ap (answers.widen c.in-Some.first c.in-Some-fact_near.second c.args.round) m)
+    ∙ (ap (λ o. of_both cover o (Some c.in-Some-fact_near.second)) c.in-Some.ensures ∙ ap (of_both cover ((known c.args.old.now).fact c.args.v.0)) c.in-Some-fact_near.ensures)
 
 pub returns-clause-of_type : goal.returns-clause-of_type
 returns-clause-of_type g c =
@@ -43,10 +43,10 @@ returns-clause-of_type g c =
     let t = name_type f c.args.v.0 in
     let of = IsOf g.V.Values.ty g.V.Values.proper t in
     let first = c.requires.first c.args.v.0 c.in-Some.first (sym c.in-Some.ensures) in
-    let second = c.requires.second c.args.v.0 c.in-Some-fact.second (sym c.in-Some-fact.ensures) in
+    let second = c.requires.second c.args.v.0 c.in-Some-fact_near.second (sym c.in-Some-fact_near.ensures) in
     let width = g.met.V.Values.lawful.typed.width t c.in-Some.first first in
     let w : c.width_of.result ≡ width_of t = c.width_of.ensures ∙ ap width_of c.type_of.ensures in
     let m : c.at.result.now ≡ landmarks f (width_of t) = c.at.ensures ∙ (ap (λ k. get_or c.args.marks.now k []) w ∙ c.requires.marks (width_of t) width) in
     some_of of c.widen.result (subst of (sym c.widen.ensures)
-    (g.met.V.Values.lawful.typed.widen t c.in-Some.first c.in-Some-fact.second c.args.round c.at.result.now first second c.requires.round
+    (g.met.V.Values.lawful.typed.widen t c.in-Some.first c.in-Some-fact_near.second c.args.round c.at.result.now first second c.requires.round
     (subst (AreLandmarks (width_of t)) (sym m) (are_landmarks f (width_of t) width))))

@@ -5,12 +5,12 @@ use Rattle.vfa_cond.proofs.state.State.add.Goals as goal
 
 pub insert-requires : goal.insert-requires
 insert-requires g c =
-    let at = belongs_at _ _ _ c.args.self.now c.args.v.0 c.place_of-place.result c.self.view_is c.place_of-place.ensures.place c.place_of-place.ensures.found c.requires.none in
+    let at = belongs_at _ _ _ c.args.self.now c.args.v.0 c.args.place c.self.view_is c.requires.belongs c.requires.found c.requires.none in
     omega (arith, belongs_inside _ _ _ at, c.self.inside.entries.ok.0)
 
 pub unreachable-requires : goal.unreachable-requires
 unreachable-requires g c =
-    let at = belongs_at _ _ _ c.args.self.now c.args.v.0 c.place_of-place.result c.self.view_is c.place_of-place.ensures.place c.place_of-place.ensures.found c.requires.none in
+    let at = belongs_at _ _ _ c.args.self.now c.args.v.0 c.args.place c.self.view_is c.requires.belongs c.requires.found c.requires.none in
     let range : c.args.v.0 < length c.self.inside.live.items = subst (λ s. c.args.v.0 < name_count s) (sym c.self.view_is) c.requires.range in
     let room : length c.self.inside.live.items ≤ vec_capacity c.self.inside.entries = subst (λ s. name_count s ≤ s.room) (sym c.self.view_is) c.requires.room in
     let few = has_space _ _ _ _ c.args.fact c.self.invariant range at in
@@ -21,18 +21,18 @@ unreachable-requires g c =
 
 pub invariant_of-self : goal.invariant_of-self
 invariant_of-self g c =
-    let at = belongs_at _ _ _ c.args.self.now c.args.v.0 c.place_of-place.result c.self.view_is c.place_of-place.ensures.place c.place_of-place.ensures.found c.requires.none in
+    let at = belongs_at _ _ _ c.args.self.now c.args.v.0 c.args.place c.self.view_is c.requires.belongs c.requires.found c.requires.none in
     let range : c.args.v.0 < length c.self.inside.live.items = subst (λ s. c.args.v.0 < name_count s) (sym c.self.view_is) c.requires.range in
     rw c.in-Ok.ensures.items (Ascends-insert _ 0 _ _ _ _ c.self.invariant (omega arith) range at)
 
 pub returns-clause-change : goal.returns-clause-change
 returns-clause-change g c =
-    let at = belongs_at _ _ _ c.args.self.now c.args.v.0 c.place_of-place.result c.self.view_is c.place_of-place.ensures.place c.place_of-place.ensures.found c.requires.none in
+    let at = belongs_at _ _ _ c.args.self.now c.args.v.0 c.args.place c.self.view_is c.requires.belongs c.requires.found c.requires.none in
     rw (c.in-Ok.ensures.items, ← c.self.view_is) (known_insert _ _ _ _ _ at)
 
 pub returns-clause-room : goal.returns-clause-room
 returns-clause-room g c =
-    let at = belongs_at _ _ _ c.args.self.now c.args.v.0 c.place_of-place.result c.self.view_is c.place_of-place.ensures.place c.place_of-place.ensures.found c.requires.none in
+    let at = belongs_at _ _ _ c.args.self.now c.args.v.0 c.args.place c.self.view_is c.requires.belongs c.requires.found c.requires.none in
     let range : c.args.v.0 < length c.self.inside.live.items = subst (λ s. c.args.v.0 < name_count s) (sym c.self.view_is) c.requires.range in
     let room : length c.self.inside.live.items ≤ vec_capacity c.self.inside.entries = subst (λ s. name_count s ≤ s.room) (sym c.self.view_is) c.requires.room in
     let few = has_space _ _ _ _ c.args.fact c.self.invariant range at in

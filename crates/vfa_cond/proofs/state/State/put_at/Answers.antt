@@ -1,4 +1,4 @@
-use Rattle.vfa_cond.proofs.state.State.put.Goals as goal
+use Rattle.vfa_cond.proofs.state.State.put_at.Goals as goal
 
 pub returns-in-Some-clause-change : goal.returns-in-Some-clause-change
 returns-in-Some-clause-change g c = rw c.in-Some.is c.give.ensures.change
