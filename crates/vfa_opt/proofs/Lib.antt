@@ -1,6 +1,10 @@
 mod Acceptances
 mod EachInput
 mod FirstGlobals
+mod GeneratedLimit
+mod GeneratedOneByOne
+mod GeneratedPrinted
+mod GeneratedStates
 mod InsideChecked
 mod NameSets
 mod NarrowedNumbers

@@ -1,4 +1,6 @@
 pub mod Acceptance
+pub mod Generated
+pub mod GeneratedLines
 pub mod Module
 pub mod Optimised
 pub mod Refusals

@@ -4,6 +4,7 @@
 
 mod acceptance;
 mod defines;
+mod generator;
 mod item_work;
 mod jobs;
 mod joined;
@@ -17,6 +18,7 @@ mod refusals;
 mod reported;
 mod work;
 
+pub use generator::{generated, summary};
 pub use jobs::Job;
 pub use joined::Text;
 pub use laws::{module_or_refusal, one_list_of_pieces, one_refusal, one_text};
