@@ -86,11 +86,14 @@ comparison width place number = record {
   attached = [];
 }
 
--- Functions, each by 165 draws from a state on: the width, forty lines, and four for the end
+-- Functions. Each takes 165 draws: the first is that of the width, 160 are those of the lines, and the last four, numbers
+-- 161 to 164, say what is compared with what, and what is returned.
 
+-- 1 to 128
 abbrev pub drawn_width : ℕ → ℕ
 drawn_width x = 1 + draw x 0 128
 
+-- forty lines, of four draws each
 unfoldable pub lines : ℕ → ℕ → List Instruction
 lines width x = map (λ j. line width j (state_after (1 + 4 * j) x)) (range_with_len 0 40)
 
@@ -102,11 +105,13 @@ block name instructions kind = record {
   terminator = record { kind = kind; attached = [] };
 }
 
+-- the first block branches on the comparison to the two others
 abbrev pub entry : ℕ → ℕ → BasicBlock
 entry width x =
     block (codes "entry") (lines width x ++ comparison width (draw x 161 40) (draw x 162 65536) ∷ [])
     (TerminatorKind.Condition (Written.Local (codes "c")) (codes "t") (codes "e"))
 
+-- a block that returns the result of a line
 abbrev pub returning : ℕ → List ℕ → ℕ → BasicBlock
 returning width name place = block name [] (TerminatorKind.Return width (result place))
 
@@ -129,6 +134,7 @@ generated_function i x = function_of_width (drawn_width x) i x
 
 -- The text
 
+-- function i in its printed form, after the draws of those before it
 unfoldable pub printed_function : ℕ → ℕ → List ℕ
 printed_function seed i = sentence_text (generated_function i (state_after (165 * i) seed)) []
 

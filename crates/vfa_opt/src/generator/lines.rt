@@ -50,7 +50,7 @@ pub fn push_result(alloc: Global, text: &mut Vec<u8>, place: u32) -> Result<(), 
 }
 
 /// Puts the name of this number last.
-fn push_name(alloc: Global, text: &mut Vec<u8>, number: u32) -> Result<(), AllocError>
+fn push_numbered_name(alloc: Global, text: &mut Vec<u8>, number: u32) -> Result<(), AllocError>
     ensures { OnOk result (text.new.items ≡ text.old.items ++ name_bytes number) }
 {
     match number {
@@ -151,7 +151,7 @@ fn push_drawn_name(
     ensures state { OnOk result (draws.new.state ≡ next_state draws.old.state) }
 {
     let number = draws.draw(names);
-    push_name(alloc, text, number)
+    push_numbered_name(alloc, text, number)
 }
 
 /// Puts a literal that is drawn last.
