@@ -4,6 +4,7 @@ mod carried;
 mod checked;
 mod faults;
 mod hostile;
+mod generated;
 mod limits;
 mod optimised;
 mod printed;
