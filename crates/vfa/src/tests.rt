@@ -3,8 +3,8 @@
 mod carried;
 mod checked;
 mod faults;
-mod hostile;
 mod generated;
+mod hostile;
 mod limits;
 mod optimised;
 mod printed;
