@@ -7,11 +7,15 @@ use vfa_dom::Domain;
 use vfa_fact::{Cell, Fact};
 use vfa_ir::Pred;
 
+/// A number that hangs on all numbers of the fact.
 fn weight<const W: u32>(fact: &Option<Fact<W>>) -> u128
     requires { IsWidth W }
 {
     match fact {
-        Some(fact) => fact.arc().first().bits(),
+        Some(fact) => {
+            let ends = fact.arc().first().bits() ^ fact.arc().last().bits();
+            ends ^ fact.known().zeros() ^ fact.known().ones()
+        }
         None => 1,
     }
 }
@@ -72,7 +76,6 @@ pub fn restrict<const W: u32>(facts: &[Fact<W>], by: &Fact<W>) -> u128
     sum
 }
 
-/// Joins all cells with one, and gives a number that hangs on the results.
 /// Takes the amounts of all facts, and gives a number that hangs on the results.
 pub fn amounts<const W: u32>(facts: &[Fact<W>], by: &Fact<W>) -> u128
     requires { IsWidth W }
@@ -108,6 +111,7 @@ pub fn join_same(cells: &[Cell], by: &Cell) -> u128 {
     sum
 }
 
+/// Joins all cells with one, and gives a number that hangs on the results.
 pub fn join_cells(cells: &[Cell], by: &Cell) -> u128 {
     let mut sum = 0u128;
     'each: for cell in cells {

@@ -1,90 +1,54 @@
-//! Nanoseconds for each call on facts at widths 8, 32, 64 and 128. With the word `time` it measures; without words it does
-//! nothing.
+//! Nanoseconds for each call on facts and each transfer of facts at widths 8, 32, 64 and 128, and for a narrowing of a state at
+//! width 32; of transfers and narrowing also how many times those of one `sharp` of the width they are. With `time facts`,
+//! `time transfers` or `time narrowing` it measures one of these, with the word `time` all; without words it does nothing.
 #![tactic(auto)]
 
-ghost use Rattle.vfa_word.specs.Numbers.{IsWidth};
-
+mod asked;
 mod calls;
+mod facts;
+mod lines;
+mod narrowing;
+mod operations;
+mod ratios;
 mod samples;
+mod states;
+mod texts;
+mod transfers;
 
-use crate::calls::{
-    amounts, compare_cells, decide, divisors, join, join_cells, join_same, restrict, sharpen,
-};
-use crate::samples::{Case, Numbers, cases, cells, facts};
-use std::time::Instant;
+use crate::facts::time_facts;
+use crate::narrowing::time_narrowing;
+use crate::transfers::time_transfers;
 use std::{env, io};
 
-/// How many of the items the calls go over all of them for.
-const TURNS: usize = 400;
-
-/// Prints the time of a call.
-fn report(
-    rt: &HostRuntime,
-    name: &str,
-    width: u32,
-    start: Instant,
-    calls: u128,
-    sum: u128,
-) -> io::Result<()> {
-    let spent = start.elapsed(rt)?.as_nanos();
-    println!(rt;
-        "width {width:>3}  {name:<14} {:>5} ns a call  (checksum {sum})",
-        spent / calls.max(1)
-    )?;
-    Ok(())
+/// Measures all.
+fn measure_all(rt: &HostRuntime) -> io::Result<()> {
+    time_facts(rt)?;
+    time_transfers(rt)?;
+    time_narrowing(rt)
 }
 
-/// Times a call over all items, once for each of some of them.
-macro_rules! measure {
-    ($rt:expr, $name:expr, $width:expr, $items:expr, $call:ident) => {{
-        let start = Instant::now($rt)?;
-        let mut sum = 0u128;
-        let mut calls = 0u128;
-        'turns: for by in $items.iter().take(TURNS) {
-            sum = sum.wrapping_add($call(&$items, by));
-            calls = calls.wrapping_add($items.len() as u128);
-        }
-        report($rt, $name, $width, start, calls, sum)?;
-    }};
-}
-
-fn measure<const W: u32>(rt: &HostRuntime) -> io::Result<()>
-    requires { IsWidth W }
-{
-    let mut numbers = Numbers::new();
-    let cases: Vec<Case<W>> = cases(rt.alloc(), &mut numbers)?;
-    measure!(rt, "sharp", W, cases, sharpen);
-    let facts = facts(rt.alloc(), &cases)?;
-    measure!(rt, "join", W, facts, join);
-    measure!(rt, "decide", W, facts, decide);
-    measure!(rt, "restrict", W, facts, restrict);
-    measure!(rt, "amounts", W, facts, amounts);
-    measure!(rt, "divisors", W, facts, divisors);
-    let cells = cells(rt.alloc(), &facts)?;
-    measure!(rt, "join with self", W, cells, join_same);
-    measure!(rt, "join of cells", W, cells, join_cells);
-    measure!(rt, "compare cells", W, cells, compare_cells);
-    Ok(())
-}
-
-/// Whether the one word is `time`.
-fn is_asked(rt: &HostRuntime) -> io::Result<bool> {
-    let mut words = Vec::new(rt.alloc());
-    for word in env::args(rt)?.skip(1) {
-        words.push(word)?;
+/// Measures what the word names.
+fn measure_named(rt: &HostRuntime, name: &str) -> io::Result<()> {
+    if name == "facts" {
+        return time_facts(rt);
     }
-    Ok(match words.as_slice() {
-        [word] => word.as_str() == "time",
-        _ => false,
-    })
+    if name == "transfers" {
+        return time_transfers(rt);
+    }
+    if name == "narrowing" {
+        return time_narrowing(rt);
+    }
+    Ok(())
 }
 
 fn main(rt: HostRuntime) -> io::Result<()> {
-    if !is_asked(&rt)? {
-        return Ok(());
+    let mut words = Vec::new(rt.alloc());
+    for word in env::args(&rt)?.skip(1) {
+        words.push(word)?;
     }
-    measure::<8>(&rt)?;
-    measure::<32>(&rt)?;
-    measure::<64>(&rt)?;
-    measure::<128>(&rt)
+    match words.as_slice() {
+        [time] if time.as_str() == "time" => measure_all(&rt),
+        [time, name] if time.as_str() == "time" => measure_named(&rt, name.as_str()),
+        _ => Ok(()),
+    }
 }

@@ -4,13 +4,11 @@ ghost use Rattle.vfa_word.specs.Numbers.{IsWidth};
 
 use std::alloc::{AllocError, Global};
 use vfa_dom::Domain;
-use vfa_fact::{Cell, Fact, Test};
+use vfa_fact::{Cell, Fact, Parts, Test};
 use vfa_known::Known;
 use vfa_word::Word;
 use vfa_wrap::Wrapped;
-
-/// How many cases there are.
-const COUNT: usize = 1024;
+use vfa_xfer::AnyFact;
 
 /// Numbers without a pattern.
 #[derive(Drop)]
@@ -62,6 +60,21 @@ impl Numbers {
         let last: Word<W> = self.word();
         Wrapped::new(first, last)
     }
+
+    /// A number below the width.
+    fn amount<const W: u32>(&mut self) -> u128
+        requires { IsWidth W }
+    {
+        self.next() as u128 % u128::from(W)
+    }
+
+    fn amounts<const W: u32>(&mut self) -> Wrapped<W>
+        requires { IsWidth W }
+    {
+        let one = self.amount::<W>();
+        let two = self.amount::<W>();
+        Wrapped::new(Word::cut(one.min(two)), Word::cut(one.max(two)))
+    }
 }
 
 /// The test of the numbers of an arc.
@@ -84,12 +97,16 @@ pub struct Case<const W: u32> {
     pub arc: Wrapped<W>,
 }
 
-/// What the calls of `sharp` take.
-pub fn cases<const W: u32>(alloc: Global, numbers: &mut Numbers) -> Result<Vec<Case<W>>, AllocError>
+/// So many cases, what the calls of `sharp` take.
+pub fn cases<const W: u32>(
+    alloc: Global,
+    numbers: &mut Numbers,
+    count: usize,
+) -> Result<Vec<Case<W>>, AllocError>
     requires { IsWidth W }
 {
     let mut list = Vec::new(alloc);
-    'each: for _ in 0..COUNT {
+    'each: for _ in 0..count {
         let known = numbers.known();
         let arc = numbers.arc();
         list.push(Case { known, arc })?;
@@ -118,6 +135,62 @@ pub fn cells<const W: u32>(alloc: Global, facts: &[Fact<W>]) -> Result<Vec<Cell>
     let mut list = Vec::new(alloc);
     'each: for fact in facts {
         list.push(Cell::of(fact, true))?;
+    }
+    Ok(list)
+}
+
+/// The fact of a number, never poison.
+fn mark<const W: u32>(fact: &Fact<W>) -> AnyFact
+    requires { IsWidth W }
+{
+    AnyFact {
+        parts: Parts::One(Cell::of(fact, true)),
+    }
+}
+
+/// What the facts say, of values that are never poison.
+pub fn marked<const W: u32>(alloc: Global, facts: &[Fact<W>]) -> Result<Vec<AnyFact>, AllocError>
+    requires { IsWidth W }
+{
+    let mut list = Vec::new(alloc);
+    'each: for fact in facts {
+        list.push(mark(fact))?;
+    }
+    Ok(list)
+}
+
+/// Facts of so many amounts below the width, of values that are never poison.
+pub fn marked_amounts<const W: u32>(
+    alloc: Global,
+    numbers: &mut Numbers,
+    count: usize,
+) -> Result<Vec<AnyFact>, AllocError>
+    requires { IsWidth W }
+{
+    let mut list = Vec::new(alloc);
+    'each: for _ in 0..count {
+        if let Some(fact) = Fact::sharp(Known::<W>::any(), numbers.amounts(), &Test::any()) {
+            list.push(mark(&fact))?;
+        }
+    }
+    Ok(list)
+}
+
+/// The fact of a pair of such a number and any bit.
+fn paired(fact: &AnyFact) -> AnyFact {
+    match &fact.parts {
+        Parts::One(cell) => AnyFact {
+            parts: Parts::Two(*cell, Cell::any(1, true)),
+        },
+        Parts::Two(_, _) => *fact,
+    }
+}
+
+/// Facts of pairs of the numbers of the facts and any bit.
+pub fn pairs(alloc: Global, facts: &[AnyFact]) -> Result<Vec<AnyFact>, AllocError> {
+    let mut list = Vec::new(alloc);
+    'each: for fact in facts {
+        list.push(paired(fact))?;
     }
     Ok(list)
 }
