@@ -5,7 +5,7 @@ use Rattle.std.specs.List.{insert, remove}
 use Rattle.std.specs.List.Sorted.{IsPartitionPoint, IsPartitionedBy, IsNonDecreasingBy}
 use Rattle.std.proofs.lemmas.List.Sorted.{IsPartitionedBy-leb}
 use Rattle.std.proofs.lemmas.List.Edits.{length-insert}
-use Rattle.std.proofs.lemmas.Bool.{cases_lt}
+use Rattle.std.proofs.lemmas.Bool.{cases_lt, eq-eqb}
 use Rattle.std.proofs.lemmas.Bool.Decides.{nat_tests}
 use Rattle.std.proofs.lemmas.Option.{slice_get_within, get_or_from_slice_get}
 use Rattle.vfa_cond.specs.declared.state.Entry.{Entry}
@@ -112,6 +112,14 @@ module _ {V : Type 0} where
       → IsSome (found v (slice_get (e ∷ rest) (if b then suc (place_in rest v) else 0))) → Stands v (e ∷ rest) (if b then suc (place_in rest v) else 0)
   stands_by e rest v true t ih is = later e rest _ (ltb-true _ _ t) (ih is)
   stands_by e rest v false t ih is = here e rest (same_name e.name.0 v e.fact (nat_eq e.name.0 v) refl is)
+
+  -- a name that stands at its place has a fact
+  pub found_by : (o : Option V) (v : ℕ) (e : Entry V) {x : Option (Entry V)} → o ≡ found v x → x ≡ Some e → e.name.0 ≡ v → IsSome o
+  found_by o v e is there named = subst IsSome (sym (is ∙ ap (found v) there)) (named_some (nat_eq e.name.0 v) (eq-eqb e.name.0 v named))
+    where
+      named_some : (b : Bool) → b ≡ true → IsSome (if b then Some e.fact else None)
+      named_some true t = refl
+      named_some false t = absurd cc
 
   pub stands : (xs : List (Entry V)) (v : ℕ) → IsSome (found v (slice_get xs (place_in xs v))) → Stands v xs (place_in xs v)
   stands [] v is = absurd cc

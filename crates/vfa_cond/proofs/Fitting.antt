@@ -66,6 +66,10 @@ type_in (Some x) t has = has
 pub has_type : (f : Function) (v : ValueId) (t : Ty) → HasType f t v → type_of f v ≡ t
 has_type f v t has = type_in (slice_get f.values v.0) t has
 
+-- a name that is an operand of a width is of its type
+pub typed_name : (f : Function) (w : ℕ) (x : Operand) (v : ValueId) → Operand.Value v ≡ x → IsNumberOperand f w x → HasType f (Ty.Int w) v
+typed_name f w x v is of = (subst (IsNumberOperand f w) (sym is) of).typed
+
 -- an operand beside a literal, and the literal, fit
 pub record FitsBeside (f : Function) (w : ℕ) (l : BesideLiteral) : Type 0 where
   pub other : IsNumberOperand f w l.other

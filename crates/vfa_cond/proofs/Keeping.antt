@@ -1,17 +1,21 @@
 -- That narrowing keeps the types of facts, and how its steps are put together.
-use Rattle.std.proofs.Common.{◌≡◌, ℕ, zero, suc, Bool, true, false, nat_eq, if◌then◌else◌, Option, Some, None, refl, sym, subst, eqb-true, arith, ◌-◌, sub-one}
+use Rattle.std.proofs.Common.{◌≡◌, ℕ, zero, suc, Bool, true, false, nat_eq, if◌then◌else◌, Option, Some, None, IsSome, refl, sym, ◌∙◌, subst, eqb-true, arith, ◌-◌, sub-one}
 use Rattle.std.specs.Option.{ForSome}
 use Rattle.vfa_ir.specs.declared.operations.Op.{Op}
+use Rattle.vfa_ir.specs.declared.operations.Operand.{Operand}
+use Rattle.vfa_ir.specs.declared.operations.Pred.{Pred}
 use Rattle.vfa_ir.specs.declared.operations.Ty.{Ty}
+use Rattle.vfa_ir.specs.declared.operations.ValueId.{ValueId}
 use Rattle.vfa_ir.specs.declared.functions.Function.{Function}
 use Rattle.vfa_values.specs.Answers.{Answers}
-use Rattle.vfa_values.specs.Conditions.{IsOf, IsInteger}
+use Rattle.vfa_values.specs.Conditions.{IsOf, IsInteger, AreAlike}
 use Rattle.vfa_values.specs.Laws.{AreTyped}
 use Rattle.vfa_cond.specs.declared.want.Want.{Want}
 use Rattle.vfa_cond.specs.Conditions.{name_type, AreFacts}
 use Rattle.vfa_cond.specs.Consequences.{consequence_of}
 use Rattle.vfa_cond.specs.Equations.{equation}
-use Rattle.vfa_cond.specs.Narrowing.{Change, and_then, Becomes, live_equation, followed, narrowed, carried_out}
+use Rattle.vfa_cond.specs.Narrowing.{Change, Narrowing, and_then, Becomes, live_equation, held, held_with, followed, kept_by, narrowed, narrowed_by, carried_out}
+use Rattle.vfa_cond.specs.Opposites.{exchanged}
 use Rattle.vfa_cond.specs.States.{AbstractState, with_fact}
 use Rattle.vfa_cond.specs.Wants.{kept, IsWantFor}
 
@@ -32,6 +36,56 @@ module _ {V : Type 0} where
       → Becomes r true mid → Becomes (next mid) answer new → Becomes (and_then r next) answer new
   goes_on None next answer mid new b after = absurd (let e : true ≡ false = b in cc)
   goes_on (Some s) next answer mid new b after = subst (λ x. Becomes (next x) answer new) b.1 after
+
+  -- ---- what is kept of a fact
+
+  pub is_given : (o : Option V) (d : V) → o ≡ Some d → IsSome o
+  is_given o d e = subst IsSome (sym e) refl
+
+  -- a name without a fact is left alone
+  pub narrows_nothing : (answers : Answers V) (f : Function) (left v : ℕ) (want : Want V) (s : AbstractState V) → s.fact v ≡ None → Becomes (narrowed answers f left v want s) true s
+  narrows_nothing answers f left v want s none = subst (λ o. Becomes (narrowed_by answers (followed answers f left v) v want o s) true s) (sym none) (refl, refl)
+
+  -- nothing meets a state in which nothing is kept of a fact
+  pub narrows_away : (answers : Answers V) (f : Function) (left v : ℕ) (want : Want V) (s : AbstractState V) (d : V) (new : AbstractState V) → s.fact v ≡ Some d → kept answers d want ≡ None
+      → Becomes (narrowed answers f left v want s) false new
+  narrows_away answers f left v want s d new is none =
+      subst (λ o. Becomes (narrowed_by answers (followed answers f left v) v want o s) false new) (sym is) (subst (λ o. Becomes (kept_by (followed answers f left v) v o s) false new) (sym none) refl)
+
+  -- a name gets what is kept of its fact, and then comes what follows
+  pub narrows_to : (answers : Answers V) (f : Function) (left v : ℕ) (want : Want V) (s : AbstractState V) (d e : V) (answer : Bool) (new : AbstractState V) → s.fact v ≡ Some d → kept answers d want ≡ Some e
+      → Becomes (followed answers f left v e (with_fact s v (Some e))) answer new → Becomes (narrowed answers f left v want s) answer new
+  narrows_to answers f left v want s d e answer new is left_is becomes =
+      subst (λ o. Becomes (narrowed_by answers (followed answers f left v) v want o s) answer new) (sym is) (subst (λ o. Becomes (kept_by (followed answers f left v) v o s) answer new) (sym left_is) becomes)
+
+  -- ---- two names of which a predicate holds
+
+  -- where one of them has no fact nothing changes
+  pub holds_without_first : (answers : Answers V) (narrow : Narrowing V) (x : ValueId) (pred : Pred) (y : ValueId) (w : ℕ) (s : AbstractState V) → s.fact x.0 ≡ None
+      → Becomes (held answers narrow (Operand.Value x) pred (Operand.Value y) w s) true s
+  holds_without_first answers narrow x pred y w s none =
+      subst (λ o. Becomes (held_with answers narrow (Operand.Value x) pred (Operand.Value y) w o (s.fact y.0) s) true s) (sym none) (refl, refl)
+
+  pub holds_without_second : (answers : Answers V) (narrow : Narrowing V) (x : ValueId) (pred : Pred) (y : ValueId) (w : ℕ) (s : AbstractState V) (d : V) → s.fact x.0 ≡ Some d → s.fact y.0 ≡ None
+      → Becomes (held answers narrow (Operand.Value x) pred (Operand.Value y) w s) true s
+  holds_without_second answers narrow x pred y w s d is none =
+      subst (λ o. Becomes (held_with answers narrow (Operand.Value x) pred (Operand.Value y) w o (s.fact y.0) s) true s) (sym is)
+      (subst (λ o. Becomes (held_with answers narrow (Operand.Value x) pred (Operand.Value y) w (Some d) o s) true s) (sym none) (refl, refl))
+
+  -- the first meets no number of the second
+  pub holds_nowhere : (answers : Answers V) (narrow : Narrowing V) (x : ValueId) (pred : Pred) (y : ValueId) (w : ℕ) (s : AbstractState V) (d e : V) (mid new : AbstractState V) → s.fact x.0 ≡ Some d → s.fact y.0 ≡ Some e
+      → Becomes (narrow x.0 (Want.Compare pred e) s) false mid → Becomes (held answers narrow (Operand.Value x) pred (Operand.Value y) w s) false new
+  holds_nowhere answers narrow x pred y w s d e mid new is is' first =
+      subst (λ o. Becomes (held_with answers narrow (Operand.Value x) pred (Operand.Value y) w o (s.fact y.0) s) false new) (sym is)
+      (subst (λ o. Becomes (held_with answers narrow (Operand.Value x) pred (Operand.Value y) w (Some d) o s) false new) (sym is') (stops _ _ mid new first))
+
+  -- one after the other, by the facts before
+  pub holds_by : (answers : Answers V) (narrow : Narrowing V) (x : ValueId) (pred : Pred) (y : ValueId) (w : ℕ) (s : AbstractState V) (d e : V) (answer : Bool) (mid new : AbstractState V) → s.fact x.0 ≡ Some d → s.fact y.0 ≡ Some e
+      → Becomes (narrow x.0 (Want.Compare pred e) s) true mid → Becomes (narrow y.0 (Want.Compare (exchanged pred) d) mid) answer new
+      → Becomes (held answers narrow (Operand.Value x) pred (Operand.Value y) w s) answer new
+  holds_by answers narrow x pred y w s d e answer mid new is is' first second =
+      subst (λ o. Becomes (held_with answers narrow (Operand.Value x) pred (Operand.Value y) w o (s.fact y.0) s) answer new) (sym is)
+      (subst (λ o. Becomes (held_with answers narrow (Operand.Value x) pred (Operand.Value y) w (Some d) o s) answer new) (sym is') (goes_on _ _ answer mid new first second))
 
   -- ---- what follows from a fact
 
@@ -74,6 +128,9 @@ module _ {V : Type 0} where
     -- a fact of the name's type leaves all facts of their types
     pub with_facts : (s : AbstractState V) (v : ℕ) (d : V) → AreFacts ty proper f s → IsOf ty proper (name_type f v) d → AreFacts ty proper f (with_fact s v (Some d))
     with_facts s v d facts of u = with_typed s v u d (nat_eq u v) refl facts of
+
+    pub alike : (t : Ty) (d e : V) → IsOf ty proper t d → IsOf ty proper t e → AreAlike ty proper d e
+    alike t d e of of' = record { first = of.is_proper; second = of'.is_proper; same_type = of.typed ∙ sym of'.typed }
 
     -- what is kept of a value is of its type
     pub kept_typed : (answers : Answers V) → AreTyped (IsOf ty proper) answers → (t : Ty) (d : V) (want : Want V) → IsInteger t → IsOf ty proper t d → IsWantFor ty proper t want

@@ -38,6 +38,11 @@ no_items [] none = refl
 no_items (x ∷ xs) none = absurd (omega arith)
 
 module _ {V : Type 0} where
+  -- what a value that is there is
+  pub given_there : (o : Option V) → IsSome o → (d : V) × (o ≡ Some d)
+  given_there None h = absurd cc
+  given_there (Some d) h = (d, refl)
+
   abbrev if_noted : ℕ → ℕ → Option V → Option V → Option V
   if_noted u v o p = if nat_eq u v then o else p
 

@@ -1,7 +1,8 @@
 //! What facts were before they changed, so that a restriction can be undone in place.
 
-ghost use Rattle.std.specs.Prelude.{◌≡◌, ◌<◌, IfOk, IsSome, Some, length, slice_set, ◌⊎◌};
+ghost use Rattle.std.specs.Prelude.{◌≡◌, ◌<◌, IfOk, IsSome, Some, length, slice_get, slice_set, ◌⊎◌};
 ghost use Rattle.vfa_cond.specs.Changes.{AreChangesOf, AreNone, fact_before, noting, restored, with_back};
+ghost use Rattle.vfa_cond.specs.Places.{place_in, found};
 ghost use Rattle.vfa_cond.specs.States.{AbstractState, Stored, known, name_count, with_fact, KeepsRoom};
 
 use crate::state::State;
@@ -43,10 +44,25 @@ impl<V: Values> Changes<V> {
         })
     }
 
+    /// Notes the fact of a name that stands at this place of the state, unless an earlier one is noted.
+    fn note_at(&mut self, state: &State<V>, v: ValueId, place: usize)
+        requires names { length self.old ≡ name_count state.now }
+        requires belongs { place ≡ place_in state.now.entries v.0 }
+        requires found { (known state.now).fact v.0 ≡ found v.0 (slice_get state.now.entries place) }
+        requires some { IsSome ((known state.now).fact v.0) }
+        ensures range { v.0 < length self.old }
+        ensures noted { (d : V) → (known state.now).fact v.0 ≡ Some d → self.new ≡ noting self.old v.0 d }
+    {
+        match state.at(v, place) {
+            Some(fact) => self.note(v, fact),
+            None => unreachable!(),
+        }
+    }
+
     /// Notes the fact that a name has before it changes, unless an earlier one is noted.
-    fn note(&mut self, v: ValueId, fact: V)
+    fn note(&mut self, v: ValueId, fact: &V)
         requires { v.0 < length self.old }
-        ensures { self.new ≡ noting self.old v.0 fact }
+        ensures { self.new ≡ noting self.old v.0 fact.now }
     {
         let place = v.0 as usize;
         if self.before[place].is_some() {
@@ -56,7 +72,7 @@ impl<V: Values> Changes<V> {
             Ok(()) => {}
             Err(_) => unreachable!(),
         }
-        self.before[place] = Some(fact);
+        self.before[place] = Some(*fact);
     }
 }
 
@@ -68,11 +84,13 @@ pub(crate) trait Journal<V: Values> {
     /// The first state is that of now, and the second one that before the changes.
     ghost was: { Self → AbstractState V → AbstractState V → Type 0 };
 
-    /// Gives a name in place of its fact another one.
-    fn replace(&mut self, state: &mut State<V>, v: ValueId, old: V, new: V)
-        requires old { (known state.old).fact v.0 ≡ Some old }
+    /// Gives a name that has a fact, and stands at this place, another one.
+    fn replace(&mut self, state: &mut State<V>, v: ValueId, place: usize, fact: &V)
+        requires some { IsSome ((known state.old).fact v.0) }
+        requires belongs { place ≡ place_in state.old.entries v.0 }
+        requires found { (known state.old).fact v.0 ≡ found v.0 (slice_get state.old.entries place) }
         requires serves { serves self.old state.old }
-        ensures change { known state.new ≡ with_fact (known state.old) v.0 (Some new) }
+        ensures change { known state.new ≡ with_fact (known state.old) v.0 (Some fact.now) }
         ensures room { KeepsRoom state.old state.new }
         ensures serves { serves self.new state.new }
         ensures was { (s : AbstractState V) → was self.old (known state.old) s → was self.new (known state.new) s };
@@ -87,8 +105,8 @@ impl<V: Values> Journal<V> for Forgetful {
 
     ghost was = { λ j s t. Unit {0} };
 
-    fn replace(&mut self, state: &mut State<V>, v: ValueId, old: V, new: V) {
-        state.replace(v, new);
+    fn replace(&mut self, state: &mut State<V>, v: ValueId, place: usize, fact: &V) {
+        state.replace_at(v, place, fact);
     }
 }
 
@@ -97,9 +115,9 @@ impl<V: Values> Journal<V> for Changes<V> {
 
     ghost was = { λ c s t. restored c s ≡ t };
 
-    fn replace(&mut self, state: &mut State<V>, v: ValueId, old: V, new: V) {
-        state.replace(v, new);
-        self.note(v, old);
+    fn replace(&mut self, state: &mut State<V>, v: ValueId, place: usize, fact: &V) {
+        self.note_at(state, v, place);
+        state.replace_at(v, place, fact);
     }
 }
 
@@ -128,7 +146,7 @@ impl<V: Values> State<V> {
         ensures room { KeepsRoom self.old self.new }
     {
         if let Some(fact) = fact {
-            self.replace(v, fact);
+            self.replace(v, &fact);
         }
     }
 }

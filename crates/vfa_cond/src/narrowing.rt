@@ -1,6 +1,7 @@
 //! Restriction of states by conditions.
 
-ghost use Rattle.std.specs.Prelude.{◌≡◌, IsTrue};
+ghost use Rattle.std.specs.Prelude.{◌≡◌, ℕ, IsSome, IsTrue, Some, slice_get};
+ghost use Rattle.vfa_ir.specs.declared.operations.Operand.{Operand};
 ghost use Rattle.vfa_ir.specs.declared.operations.Ty.TheVariants.{Int};
 ghost use Rattle.vfa_mean.specs.FreshOperands.{DefinesOnce};
 ghost use Rattle.vfa_mean.specs.Outcomes.{type_of};
@@ -9,9 +10,11 @@ ghost use Rattle.vfa_values.specs.Conditions.{IsInteger, IsOf, width_of};
 ghost use Rattle.vfa_cond.specs.Changes.{AreChangesOf, restored};
 ghost use Rattle.vfa_cond.specs.Conditions.{HasTypedEquations, AreFacts, IsNumberOperand, FitsConsequence};
 ghost use Rattle.vfa_cond.specs.Narrowing.{Becomes, deepest, narrowed, narrowed_operand, narrowed_both, operand_fact, held, carried_out, followed};
-ghost use Rattle.vfa_cond.specs.States.{AbstractState, known, KeepsNames, KeepsRoom};
+ghost use Rattle.vfa_cond.specs.Places.{place_in, found};
+ghost use Rattle.vfa_cond.specs.States.{AbstractState, known, with_fact, KeepsNames, KeepsRoom};
 ghost use Rattle.vfa_cond.specs.Truth.{IsTrueState, IsWantedValue, HoldsBetween};
 ghost use Rattle.vfa_cond.specs.Wants.{IsWantFor};
+ghost use Rattle.vfa_cond.specs.declared.want.Want.{Want};
 
 use crate::changes::{Changes, Forgetful, Journal};
 use crate::consequence::{Consequence, consequence_of};
@@ -161,14 +164,78 @@ impl<V: Values> State<V> {
         ensures serves { J.serves journal.new self.new }
         ensures was { (s : AbstractState V) → J.was journal.old (known self.old) s → J.was journal.new (known self.new) s }
     {
-        let Some(fact) = self.fact(v) else {
+        let place = self.place_of(v);
+        let Some(fact) = self.at(v, place) else {
             return true;
         };
-        let Some(kept) = want.keep(&fact) else {
+        let Some(kept) = want.keep(fact) else {
             return false;
         };
-        journal.replace(self, v, fact, kept);
-        self.follow(f, v, &kept, left, journal)
+        self.narrow_to(f, v, place, &kept, left, journal)
+    }
+
+    /// Narrows a name that belongs at this place so that the predicate may hold of it and another fact.
+    #[cycle(narrowing)]
+    fn narrow_by<J: Journal<V>>(
+        &mut self,
+        f: &Function,
+        v: ValueId,
+        place: usize,
+        pred: Pred,
+        other: &V,
+        left: u32,
+        journal: &mut J,
+    ) -> bool
+        requires function { HasTypedEquations f.now }
+        requires once { DefinesOnce f.now }
+        requires facts { AreFacts V.ty V.proper f.now (known self.old) }
+        requires belongs { place ≡ place_in self.old.entries v.0 }
+        requires found { (known self.old).fact v.0 ≡ found v.0 (slice_get self.old.entries place) }
+        requires integer { IsInteger (type_of f.now v) }
+        requires other { IsOf V.ty V.proper (type_of f.now v) other.now }
+        requires serves { J.serves journal.old self.old }
+        ensures becomes { Becomes (narrowed V.answers f.now left v.0 (Want.Compare pred other.now) (known self.old)) result (known self.new) }
+        ensures facts { IsTrue result → AreFacts V.ty V.proper f.now (known self.new) }
+        ensures room { KeepsRoom self.old self.new }
+        ensures serves { J.serves journal.new self.new }
+        ensures was { (s : AbstractState V) → J.was journal.old (known self.old) s → J.was journal.new (known self.new) s }
+    {
+        let Some(fact) = self.at(v, place) else {
+            return true;
+        };
+        let Some(kept) = fact.compare(pred, other) else {
+            return false;
+        };
+        self.narrow_to(f, v, place, &kept, left, journal)
+    }
+
+    /// Gives a name that stands at this place what is kept of its fact, and does what follows from that.
+    #[cycle(narrowing)]
+    fn narrow_to<J: Journal<V>>(
+        &mut self,
+        f: &Function,
+        v: ValueId,
+        place: usize,
+        kept: &V,
+        left: u32,
+        journal: &mut J,
+    ) -> bool
+        requires function { HasTypedEquations f.now }
+        requires once { DefinesOnce f.now }
+        requires facts { AreFacts V.ty V.proper f.now (known self.old) }
+        requires some { IsSome ((known self.old).fact v.0) }
+        requires belongs { place ≡ place_in self.old.entries v.0 }
+        requires found { (known self.old).fact v.0 ≡ found v.0 (slice_get self.old.entries place) }
+        requires own { IsOf V.ty V.proper (type_of f.now v) kept.now }
+        requires serves { J.serves journal.old self.old }
+        ensures becomes { Becomes (followed V.answers f.now left v.0 kept.now (with_fact (known self.old) v.0 (Some kept.now))) result (known self.new) }
+        ensures facts { IsTrue result → AreFacts V.ty V.proper f.now (known self.new) }
+        ensures room { KeepsRoom self.old self.new }
+        ensures serves { J.serves journal.new self.new }
+        ensures was { (s : AbstractState V) → J.was journal.old (known self.old) s → J.was journal.new (known self.new) s }
+    {
+        journal.replace(self, v, place, kept);
+        self.follow(f, v, kept, left, journal)
     }
 
     /// Does what follows from a new fact of a name.
@@ -224,25 +291,25 @@ impl<V: Values> State<V> {
         ensures serves { J.serves journal.new self.new }
         ensures was { (s : AbstractState V) → J.was journal.old (known self.old) s → J.was journal.new (known self.new) s }
     {
-        match *consequence {
+        match consequence {
             Consequence::Nothing => true,
             Consequence::Contradiction => false,
             Consequence::One {
                 operand,
                 width,
                 want,
-            } => self.narrow_operand(f, operand, width, &want, left, journal),
+            } => self.narrow_operand(f, *operand, *width, want, left, journal),
             Consequence::Both {
                 first,
                 second,
                 want,
-            } => self.narrow_both(f, first, second, &want, left, journal),
+            } => self.narrow_both(f, *first, *second, want, left, journal),
             Consequence::Holds {
                 first,
                 pred,
                 second,
                 width,
-            } => self.hold_within(f, first, pred, second, width, left, journal),
+            } => self.hold_within(f, *first, *pred, *second, *width, left, journal),
         }
     }
 
@@ -306,9 +373,118 @@ impl<V: Values> State<V> {
         }
     }
 
+    /// Narrows an operand of this width so that the predicate may hold of it and another fact.
+    #[cycle(narrowing)]
+    fn narrow_operand_by<J: Journal<V>>(
+        &mut self,
+        f: &Function,
+        operand: Operand,
+        width: u32,
+        pred: Pred,
+        other: &V,
+        left: u32,
+        journal: &mut J,
+    ) -> bool
+        requires function { HasTypedEquations f.now }
+        requires once { DefinesOnce f.now }
+        requires facts { AreFacts V.ty V.proper f.now (known self.old) }
+        requires operand { IsNumberOperand f.now width operand }
+        requires other { IsOf V.ty V.proper (Int width) other.now }
+        requires serves { J.serves journal.old self.old }
+        ensures becomes { Becomes (narrowed_operand V.answers (narrowed V.answers f.now left) operand width (Want.Compare pred other.now) (known self.old)) result (known self.new) }
+        ensures facts { IsTrue result → AreFacts V.ty V.proper f.now (known self.new) }
+        ensures room { KeepsRoom self.old self.new }
+        ensures serves { J.serves journal.new self.new }
+        ensures was { (s : AbstractState V) → J.was journal.old (known self.old) s → J.was journal.new (known self.new) s }
+    {
+        match operand {
+            Operand::Value(v) => {
+                let place = self.place_of(v);
+                self.narrow_by(f, v, place, pred, other, left, journal)
+            }
+            Operand::Literal(bits) => V::literal(width, bits).compare(pred, other).is_some(),
+            Operand::Poison => false,
+        }
+    }
+
     /// Narrows two operands of this width so that the predicate may hold of them.
     #[cycle(narrowing)]
     fn hold_within<J: Journal<V>>(
+        &mut self,
+        f: &Function,
+        a: Operand,
+        pred: Pred,
+        b: Operand,
+        width: u32,
+        left: u32,
+        journal: &mut J,
+    ) -> bool
+        requires function { HasTypedEquations f.now }
+        requires once { DefinesOnce f.now }
+        requires facts { AreFacts V.ty V.proper f.now (known self.old) }
+        requires first { IsNumberOperand f.now width a }
+        requires second { IsNumberOperand f.now width b }
+        requires serves { J.serves journal.old self.old }
+        ensures becomes { Becomes (held V.answers (narrowed V.answers f.now left) a pred b width (known self.old)) result (known self.new) }
+        ensures facts { IsTrue result → AreFacts V.ty V.proper f.now (known self.new) }
+        ensures room { KeepsRoom self.old self.new }
+        ensures serves { J.serves journal.new self.new }
+        ensures was { (s : AbstractState V) → J.was journal.old (known self.old) s → J.was journal.new (known self.new) s }
+    {
+        let Operand::Value(x) = a else {
+            return self.hold_operands(f, a, pred, b, width, left, journal);
+        };
+        let Operand::Value(y) = b else {
+            return self.hold_operands(f, a, pred, b, width, left, journal);
+        };
+        self.hold_names(f, x, pred, y, left, journal)
+    }
+
+    /// Does what `hold_within` does for two names of one integer type.
+    #[cycle(narrowing)]
+    fn hold_names<J: Journal<V>>(
+        &mut self,
+        f: &Function,
+        x: ValueId,
+        pred: Pred,
+        y: ValueId,
+        left: u32,
+        journal: &mut J,
+    ) -> bool
+        requires function { HasTypedEquations f.now }
+        requires once { DefinesOnce f.now }
+        requires facts { AreFacts V.ty V.proper f.now (known self.old) }
+        requires integer { IsInteger (type_of f.now x) }
+        requires alike { type_of f.now y ≡ type_of f.now x }
+        requires serves { J.serves journal.old self.old }
+        ensures becomes { (width : ℕ) → Becomes (held V.answers (narrowed V.answers f.now left) (Operand.Value x) pred (Operand.Value y) width (known self.old)) result (known self.new) }
+        ensures facts { IsTrue result → AreFacts V.ty V.proper f.now (known self.new) }
+        ensures room { KeepsRoom self.old self.new }
+        ensures serves { J.serves journal.new self.new }
+        ensures was { (s : AbstractState V) → J.was journal.old (known self.old) s → J.was journal.new (known self.new) s }
+    {
+        let place = self.place_of(x);
+        let Some(fact) = self.at(x, place) else {
+            return true;
+        };
+        let near = self.place_of(y);
+        let Some(other) = self.at(y, near) else {
+            return true;
+        };
+        let Some(kept) = fact.compare(pred, other) else {
+            return false;
+        };
+        let first = *fact;
+        if !self.narrow_to(f, x, place, &kept, left, journal) {
+            return false;
+        }
+        let near = self.place_near(y, near);
+        self.narrow_by(f, y, near, exchanged(pred), &first, left, journal)
+    }
+
+    /// Does what `hold_within` does for any operands.
+    #[cycle(narrowing)]
+    fn hold_operands<J: Journal<V>>(
         &mut self,
         f: &Function,
         a: Operand,
@@ -336,16 +512,9 @@ impl<V: Values> State<V> {
         let Some(second) = self.operand_fact(f, width, b) else {
             return true;
         };
-        if !self.narrow_operand(f, a, width, &Want::Compare(pred, second), left, journal) {
+        if !self.narrow_operand_by(f, a, width, pred, &second, left, journal) {
             return false;
         }
-        self.narrow_operand(
-            f,
-            b,
-            width,
-            &Want::Compare(exchanged(pred), first),
-            left,
-            journal,
-        )
+        self.narrow_operand_by(f, b, width, exchanged(pred), &first, left, journal)
     }
 }

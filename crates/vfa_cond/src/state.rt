@@ -1,6 +1,6 @@
 //! States: facts of names, and the names whose equations are live.
 
-ghost use Rattle.std.specs.Prelude.{◌≡◌, ◌<◌, ◌≤◌, All, [], IfOk, IsSome, IsTrue, Some, false, length, slice_get};
+ghost use Rattle.std.specs.Prelude.{◌≡◌, ◌<◌, ◌≤◌, All, [], IfOk, IsSome, IsTrue, MatchOption, Some, false, length, slice_get};
 ghost use Rattle.vfa_cond.specs.declared.state.Entry.{Entry};
 ghost use Rattle.vfa_cond.specs.Places.{place_in, found};
 ghost use Rattle.vfa_cond.specs.States.{known, name_count, fact_in, IsRoomy, KeepsRoom, with_fact, with_live, given, AreGiven};
@@ -152,7 +152,7 @@ impl<V: Values> State<V> {
     }
 
     /// How many names that have a fact stand before the name.
-    fn place_of(&self, v: ValueId) -> usize
+    pub(crate) fn place_of(&self, v: ValueId) -> usize
         ensures place { result ≡ place_in self.now.entries v.0 }
         ensures found { (known self.now).fact v.0 ≡ found v.0 (slice_get self.now.entries result) }
     {
@@ -186,7 +186,7 @@ impl<V: Values> State<V> {
     }
 
     /// How many names that have a fact stand before the name, by a guess that is tried first, and the places beside it.
-    fn place_near(&self, v: ValueId, guess: usize) -> usize
+    pub(crate) fn place_near(&self, v: ValueId, guess: usize) -> usize
         ensures place { result ≡ place_in self.now.entries v.0 }
         ensures found { (known self.now).fact v.0 ≡ found v.0 (slice_get self.now.entries result) }
     {
@@ -216,6 +216,20 @@ impl<V: Values> State<V> {
         Some(entry.fact)
     }
 
+    /// The fact of the name that belongs at this place, where it stands.
+    pub(crate) fn at(&self, v: ValueId, place: usize) -> Option<&V>
+        requires belongs { place ≡ place_in self.now.entries v.0 }
+        requires found { (known self.now).fact v.0 ≡ found v.0 (slice_get self.now.entries place) }
+        ensures fact { MatchOption result ((known self.now).fact v.0 ≡ None) (λ fact. (known self.now).fact v.0 ≡ Some fact.now) }
+        ensures range { IsSome result → v.0 < name_count self.now }
+    {
+        let entry = self.entries.get(place)?;
+        if entry.name != v {
+            return None;
+        }
+        Some(&entry.fact)
+    }
+
     /// Gives the name that belongs at this place this fact, or none.
     fn put_at(&mut self, v: ValueId, fact: Option<V>, place: usize)
         requires range { v.0 < name_count self.old }
@@ -241,7 +255,7 @@ impl<V: Values> State<V> {
         ensures room { KeepsRoom self.old self.new }
     {
         match self.fact_at(v, place) {
-            Some(_) => self.replace_at(v, fact, place),
+            Some(_) => self.replace_at(v, place, &fact),
             None => self.add(v, fact, place),
         }
     }
@@ -260,26 +274,27 @@ impl<V: Values> State<V> {
     }
 
     /// Gives a name that has a fact this one.
-    pub(crate) fn replace(&mut self, v: ValueId, fact: V)
+    pub(crate) fn replace(&mut self, v: ValueId, fact: &V)
         requires { IsSome ((known self.old).fact v.0) }
-        ensures range { v.0 < name_count self.old }
-        ensures change { known self.new ≡ with_fact (known self.old) v.0 (Some fact) }
+        ensures change { known self.new ≡ with_fact (known self.old) v.0 (Some fact.now) }
         ensures room { KeepsRoom self.old self.new }
     {
         let place = self.place_of(v);
-        self.replace_at(v, fact, place);
+        self.replace_at(v, place, fact);
     }
 
     /// Gives a name that has a fact, and stands at this place, this one.
-    fn replace_at(&mut self, v: ValueId, fact: V, place: usize)
+    pub(crate) fn replace_at(&mut self, v: ValueId, place: usize, fact: &V)
         requires some { IsSome ((known self.old).fact v.0) }
         requires belongs { place ≡ place_in self.old.entries v.0 }
         requires found { (known self.old).fact v.0 ≡ found v.0 (slice_get self.old.entries place) }
-        ensures range { v.0 < name_count self.old }
-        ensures change { known self.new ≡ with_fact (known self.old) v.0 (Some fact) }
+        ensures change { known self.new ≡ with_fact (known self.old) v.0 (Some fact.now) }
         ensures room { KeepsRoom self.old self.new }
     {
-        self.entries[place] = Entry { name: v, fact };
+        self.entries[place] = Entry {
+            name: v,
+            fact: *fact,
+        };
     }
 
     /// Gives a name that has no fact, and belongs at this place, this one.
