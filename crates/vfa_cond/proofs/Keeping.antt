@@ -42,16 +42,6 @@ module _ {V : Type 0} where
   pub is_given : (o : Option V) (d : V) → o ≡ Some d → IsSome o
   is_given o d e = subst IsSome (sym e) refl
 
-  -- a name without a fact is left alone
-  pub narrows_nothing : (answers : Answers V) (f : Function) (left v : ℕ) (want : Want V) (s : AbstractState V) → s.fact v ≡ None → Becomes (narrowed answers f left v want s) true s
-  narrows_nothing answers f left v want s none = subst (λ o. Becomes (narrowed_by answers (followed answers f left v) v want o s) true s) (sym none) (refl, refl)
-
-  -- nothing meets a state in which nothing is kept of a fact
-  pub narrows_away : (answers : Answers V) (f : Function) (left v : ℕ) (want : Want V) (s : AbstractState V) (d : V) (new : AbstractState V) → s.fact v ≡ Some d → kept answers d want ≡ None
-      → Becomes (narrowed answers f left v want s) false new
-  narrows_away answers f left v want s d new is none =
-      subst (λ o. Becomes (narrowed_by answers (followed answers f left v) v want o s) false new) (sym is) (subst (λ o. Becomes (kept_by (followed answers f left v) v o s) false new) (sym none) refl)
-
   -- a name gets what is kept of its fact, and then comes what follows
   pub narrows_to : (answers : Answers V) (f : Function) (left v : ℕ) (want : Want V) (s : AbstractState V) (d e : V) (answer : Bool) (new : AbstractState V) → s.fact v ≡ Some d → kept answers d want ≡ Some e
       → Becomes (followed answers f left v e (with_fact s v (Some e))) answer new → Becomes (narrowed answers f left v want s) answer new
@@ -59,25 +49,6 @@ module _ {V : Type 0} where
       subst (λ o. Becomes (narrowed_by answers (followed answers f left v) v want o s) answer new) (sym is) (subst (λ o. Becomes (kept_by (followed answers f left v) v o s) answer new) (sym left_is) becomes)
 
   -- ---- two names of which a predicate holds
-
-  -- where one of them has no fact nothing changes
-  pub holds_without_first : (answers : Answers V) (narrow : Narrowing V) (x : ValueId) (pred : Pred) (y : ValueId) (w : ℕ) (s : AbstractState V) → s.fact x.0 ≡ None
-      → Becomes (held answers narrow (Operand.Value x) pred (Operand.Value y) w s) true s
-  holds_without_first answers narrow x pred y w s none =
-      subst (λ o. Becomes (held_with answers narrow (Operand.Value x) pred (Operand.Value y) w o (s.fact y.0) s) true s) (sym none) (refl, refl)
-
-  pub holds_without_second : (answers : Answers V) (narrow : Narrowing V) (x : ValueId) (pred : Pred) (y : ValueId) (w : ℕ) (s : AbstractState V) (d : V) → s.fact x.0 ≡ Some d → s.fact y.0 ≡ None
-      → Becomes (held answers narrow (Operand.Value x) pred (Operand.Value y) w s) true s
-  holds_without_second answers narrow x pred y w s d is none =
-      subst (λ o. Becomes (held_with answers narrow (Operand.Value x) pred (Operand.Value y) w o (s.fact y.0) s) true s) (sym is)
-      (subst (λ o. Becomes (held_with answers narrow (Operand.Value x) pred (Operand.Value y) w (Some d) o s) true s) (sym none) (refl, refl))
-
-  -- the first meets no number of the second
-  pub holds_nowhere : (answers : Answers V) (narrow : Narrowing V) (x : ValueId) (pred : Pred) (y : ValueId) (w : ℕ) (s : AbstractState V) (d e : V) (mid new : AbstractState V) → s.fact x.0 ≡ Some d → s.fact y.0 ≡ Some e
-      → Becomes (narrow x.0 (Want.Compare pred e) s) false mid → Becomes (held answers narrow (Operand.Value x) pred (Operand.Value y) w s) false new
-  holds_nowhere answers narrow x pred y w s d e mid new is is' first =
-      subst (λ o. Becomes (held_with answers narrow (Operand.Value x) pred (Operand.Value y) w o (s.fact y.0) s) false new) (sym is)
-      (subst (λ o. Becomes (held_with answers narrow (Operand.Value x) pred (Operand.Value y) w (Some d) o s) false new) (sym is') (stops _ _ mid new first))
 
   -- one after the other, by the facts before
   pub holds_by : (answers : Answers V) (narrow : Narrowing V) (x : ValueId) (pred : Pred) (y : ValueId) (w : ℕ) (s : AbstractState V) (d e : V) (answer : Bool) (mid new : AbstractState V) → s.fact x.0 ≡ Some d → s.fact y.0 ≡ Some e
