@@ -79,7 +79,7 @@ edges_count from Term.Unreachable = refl
 pub out_is : (f : Function) (from : ℕ) (block : Block) → slice_get f.blocks from ≡ Some block → edges_out f from ≡ block_edges from block.term
 out_is f from block is = rw (is, edges_out) refl
 
-leads_out : (f : Function) (from : ℕ) (block : Block) → slice_get f.blocks from ≡ Some block → successors f from ≡ map (λ t. t.0) (targets block.term)
+pub leads_out : (f : Function) (from : ℕ) (block : Block) → slice_get f.blocks from ≡ Some block → successors f from ≡ map (λ t. t.0) (targets block.term)
 leads_out f from block is = rw (is, successors) refl
 
 module _ {V : Type 0} (answers : Answers V) (f : Function) (from to : ℕ) (block : Block) (is : slice_get f.blocks from ≡ Some block) (s : AbstractState V) where
@@ -118,7 +118,7 @@ cases_lead : (from j : ℕ) (cases : List (ℕ × BlockId)) → map (λ e. e.to.
 cases_lead from j [] = refl
 cases_lead from j (c ∷ rest) = ap (λ list. c.1.0 ∷ list) (cases_lead from (j + 1) rest)
 
-edges_lead : (from : ℕ) (term : Term) → map (λ e. e.to.0) (block_edges from term) ≡ map (λ t. t.0) (targets term)
+pub edges_lead : (from : ℕ) (term : Term) → map (λ e. e.to.0) (block_edges from term) ≡ map (λ t. t.0) (targets term)
 edges_lead from (Term.Ret _ _) = refl
 edges_lead from (Term.Br to) = refl
 edges_lead from (Term.CondBr _ yes_to no_to) = refl

@@ -1,4 +1,5 @@
 pub mod Analysis
+pub mod Chains
 pub mod Cursors
 pub mod Flow
 pub mod Heads

@@ -6,6 +6,7 @@ ghost use Rattle.vfa_ir.specs.declared.operations.BlockId.{BlockId};
 ghost use Rattle.vfa_ir.specs.declared.operations.Ty.TheVariants.{Int};
 ghost use Rattle.vfa_ir.specs.declared.functions.Term.TheVariants.{CondBr, Switch};
 ghost use Rattle.vfa_ir.specs.PhisFit.{targets};
+ghost use Rattle.vfa_ir.specs.Walks.{successors};
 ghost use Rattle.vfa_mean.specs.Outcomes.{entry_from};
 ghost use Rattle.vfa_cfg.specs.declared.listing.Way.TheVariants.{Always, Yes, No, Other};
 ghost use Rattle.vfa_cfg.specs.Edges.{block_edges, case_edges, edge};
@@ -13,6 +14,7 @@ ghost use Rattle.vfa_values.specs.Conditions.{IsOf};
 ghost use Rattle.vfa_cond.specs.Conditions.{AreFacts, IsNumberOperand};
 ghost use Rattle.vfa_cond.specs.Narrowing.{Becomes};
 ghost use Rattle.vfa_cond.specs.States.{known};
+ghost use Rattle.vfa_walk.specs.Chains.{AreChains};
 ghost use Rattle.vfa_walk.specs.Joining.{joined};
 ghost use Rattle.vfa_walk.specs.Kept.{IsStateOf};
 ghost use Rattle.vfa_walk.specs.Leaving.{along_way, assigned, paired, phi_fact, told_case, told_no_case, with_phis};
@@ -20,6 +22,7 @@ ghost use Rattle.vfa_walk.specs.Passes.{merged};
 ghost use Rattle.vfa_walk.specs.Ready.{HasFewNames, IsNarrowable, IsReady, IsReadyBlock, IsReadyPhi, IsReadyTerm};
 
 use crate::blocks::block_at;
+use crate::chains::Chains;
 use crate::definitions::redefine;
 use crate::joining::merge;
 use crate::operands::fact_of;
@@ -243,6 +246,27 @@ pub(crate) fn along<V: Values>(
     Ok(None)
 }
 
+/// Joins what the edge that goes this way hands on.
+fn join_along<V: Values>(
+    alloc: Global,
+    f: &Function,
+    end: &State<V>,
+    term: &Term,
+    way: Way,
+    sum: Option<State<V>>,
+) -> Result<Option<State<V>>, AllocError>
+    requires function { IsNarrowable f.now }
+    requires term { IsReadyTerm f.now term.now }
+    requires state { IsStateOf V.ty V.proper f.now end.now }
+    requires sum { ForSome sum (IsStateOf V.ty V.proper f.now) }
+    requires few { length f.now.values ≤ 2 ^ 28 }
+    ensures joined { IfOk result (λ o. option_map known o ≡ merged (joined V.answers) (option_map known sum) (along_way V.answers f.now term.now way (known end.now))) }
+    ensures state { IfOk result (λ o. ForSome o (IsStateOf V.ty V.proper f.now)) }
+{
+    let next = along(alloc, f, end, term, way)?;
+    Ok(merge(f, sum, next))
+}
+
 /// Joins what an edge hands on, if it leads to the block.
 fn join_edge<V: Values>(
     alloc: Global,
@@ -266,8 +290,7 @@ fn join_edge<V: Values>(
     if edge.to != to {
         return Ok(sum);
     }
-    let next = along(alloc, f, end, term, edge.way)?;
-    Ok(merge(f, sum, next))
+    join_along(alloc, f, end, term, edge.way, sum)
 }
 
 /// What the edges of this block to another make of the state before its terminator.
@@ -437,6 +460,65 @@ pub(crate) fn hand_on<V: Values>(
     ensures state { IfOk result (λ o. ForSome o (IsStateOf V.ty V.proper f.now)) }
 {
     let Some(before) = pair(alloc, f, end, from, to)? else {
+        return Ok(None);
+    };
+    Ok(Some(assign_all(alloc, f, before, from, to)?))
+}
+
+/// What the edges of this block to another make of the state before its terminator, by the first of them and the chain.
+fn pair_along<V: Values>(
+    alloc: Global,
+    f: &Function,
+    end: &State<V>,
+    from: BlockId,
+    block: &Block,
+    to: BlockId,
+    chains: &Chains,
+    first: usize,
+) -> Result<Option<State<V>>, AllocError>
+    requires ready { IsReady f.now }
+    requires few { HasFewNames f.now }
+    requires block { slice_get f.now.blocks from.0 ≡ Some block.now }
+    requires ready_block { IsReadyBlock f.now block.now }
+    requires edges { length (targets block.now.term) ≤ 2 ^ 28 + 1 }
+    requires state { IsStateOf V.ty V.proper f.now end.now }
+    requires chains { AreChains (successors f.now from.0) chains.now.first.items chains.now.next.items }
+    requires first { slice_get chains.now.first.items to.0 ≡ Some first }
+    ensures pair { IfOk result (λ o. option_map known o ≡ paired V.answers f.now from.0 to.0 (known end.now)) }
+    ensures state { IfOk result (λ o. ForSome o (IsStateOf V.ty V.proper f.now)) }
+{
+    let mut sum: Option<State<V>> = None;
+    let mut k = first;
+    'chain: while let Some(edge) = edge_at(from, &block.term, k) {
+        sum = join_along(alloc, f, end, &block.term, edge.way, sum)?;
+        k = chains.after(k);
+    }
+    Ok(sum)
+}
+
+/// What all edges of this block to another hand on to it, as `hand_on` does, by the first of them and the chain.
+pub(crate) fn hand_along<V: Values>(
+    alloc: Global,
+    f: &Function,
+    end: &State<V>,
+    from: BlockId,
+    block: &Block,
+    to: BlockId,
+    chains: &Chains,
+    first: usize,
+) -> Result<Option<State<V>>, AllocError>
+    requires ready { IsReady f.now }
+    requires few { HasFewNames f.now }
+    requires block { slice_get f.now.blocks from.0 ≡ Some block.now }
+    requires ready_block { IsReadyBlock f.now block.now }
+    requires edges { length (targets block.now.term) ≤ 2 ^ 28 + 1 }
+    requires state { IsStateOf V.ty V.proper f.now end.now }
+    requires chains { AreChains (successors f.now from.0) chains.now.first.items chains.now.next.items }
+    requires first { slice_get chains.now.first.items to.0 ≡ Some first }
+    ensures handed { IfOk result (λ o. option_map known o ≡ option_map (with_phis V.answers f.now from.0 to.0) (paired V.answers f.now from.0 to.0 (known end.now))) }
+    ensures state { IfOk result (λ o. ForSome o (IsStateOf V.ty V.proper f.now)) }
+{
+    let Some(before) = pair_along(alloc, f, end, from, block, to, chains, first)? else {
         return Ok(None);
     };
     Ok(Some(assign_all(alloc, f, before, from, to)?))

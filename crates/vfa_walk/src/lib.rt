@@ -2,6 +2,7 @@
 #![tactic(auto)]
 
 mod blocks;
+mod chains;
 mod cursor;
 mod definitions;
 mod handing;
