@@ -18,7 +18,7 @@ use Rattle.vfa_walk.specs.Chains.{AreChains, first_to}
 use Rattle.vfa_walk.specs.Joining.{joined}
 use Rattle.vfa_walk.specs.Leaving.{along_way, along_edge, joined_edges, paired}
 use Rattle.vfa_walk.specs.Passes.{merged}
-use Rattle.vfa_walk.proofs.Edges.{edges_lead, from_get, leads_out, pair_begins, pair_ends, pair_more}
+use Rattle.vfa_walk.proofs.Edges.{edges_lead, from_get, leads_out, pair_begins, pair_more}
 use Rattle.vfa_walk.proofs.PassEquations.{if_no, if_yes}
 
 turned : (a b : ℕ) → nat_eq a b ≡ nat_eq b a

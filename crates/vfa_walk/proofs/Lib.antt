@@ -1,3 +1,4 @@
+pub mod Agreeing
 pub mod Chaining
 pub mod CursorLaws
 pub mod Cutting

@@ -1,3 +1,4 @@
+pub mod Agreement
 pub mod Analysis
 pub mod Chains
 pub mod Cursors

@@ -1,10 +1,11 @@
 //! What covers two states, and what the entry of a block keeps of one.
 
-ghost use Rattle.std.specs.Prelude.{◌≡◌, ◌<◌, ◌≤◌, ◌^◌, length};
+ghost use Rattle.std.specs.Prelude.{◌≡◌, ◌<◌, ◌≤◌, ◌^◌, ◌&&◌, IsTrue, length, not};
 ghost use Rattle.std.specs.Option.{ForSome, option_map};
 ghost use Rattle.vfa_values.specs.Conditions.{IsOf};
 ghost use Rattle.vfa_cond.specs.Conditions.{AreFacts, name_type};
 ghost use Rattle.vfa_cond.specs.States.{known, with_fact, with_live};
+ghost use Rattle.vfa_walk.specs.Agreement.{Agrees};
 ghost use Rattle.vfa_walk.specs.Joining.{joined};
 ghost use Rattle.vfa_walk.specs.Kept.{IsStateOf, taken};
 ghost use Rattle.vfa_walk.specs.Passes.{merged};
@@ -19,6 +20,41 @@ use vfa_values::Values;
 pub(crate) struct Near {
     pub(crate) first: usize,
     pub(crate) second: usize,
+}
+
+/// Whether an equation is live in a state and not in another.
+fn ends_with<V: Values>(state: &State<V>, other: &State<V>, v: ValueId) -> bool
+    ensures { result ≡ ((known state.now).live v.0 && not ((known other.now).live v.0)) }
+{
+    if !state.live(v) {
+        return false;
+    }
+    !other.live(v)
+}
+
+/// Whether a state knows nothing of a name that another one does not know too; then what covers both is there the state.
+pub(crate) fn agrees<V: Values>(
+    f: &Function,
+    state: &State<V>,
+    other: &State<V>,
+    v: ValueId,
+    near: &mut Near,
+) -> bool
+    requires first { AreFacts V.ty V.proper f.now (known state.now) }
+    requires second { AreFacts V.ty V.proper f.now (known other.now) }
+    ensures { IsTrue result → Agrees (known state.now) (known other.now) v.0 }
+{
+    let _ = f;
+    if ends_with(state, other, v) {
+        return false;
+    }
+    let Some(first) = state.fact_near(v, &mut near.first) else {
+        return true;
+    };
+    let Some(second) = other.fact_near(v, &mut near.second) else {
+        return false;
+    };
+    first.same(&second)
 }
 
 /// What covers the facts that a name has in two states.
@@ -78,6 +114,9 @@ fn join_name<V: Values>(
     ensures change { known state.new ≡ taken v.0 (joined V.answers (known state.old) (known other.now)) (known state.old) }
     ensures state { IsStateOf V.ty V.proper f.now state.new }
 {
+    if agrees(f, state, other, v, near) {
+        return;
+    }
     let live = state.live(v) & other.live(v);
     let fact = joined_fact(f, state, other, v, near);
     take_over(state, f, v, fact, live, &mut near.first);

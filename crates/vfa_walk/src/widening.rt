@@ -10,7 +10,7 @@ ghost use Rattle.vfa_walk.specs.Kept.{IsStateOf, taken};
 ghost use Rattle.vfa_walk.specs.Marks.{AreMarksOf};
 ghost use Rattle.vfa_walk.specs.Passes.{merged};
 
-use crate::joining::{Near, take_over};
+use crate::joining::{Near, agrees, take_over};
 use crate::marks::Marks;
 use crate::pairs::same;
 use crate::passes::{copied, type_of};
@@ -71,6 +71,9 @@ fn widen_name<V: Values>(
     ensures change { known state.new ≡ taken v.0 (widened V.answers f.now round (known state.old) (known new.now)) (known state.old) }
     ensures state { IsStateOf V.ty V.proper f.now state.new }
 {
+    if agrees(f, state, new, v, near) {
+        return;
+    }
     let live = state.live(v) & new.live(v);
     let fact = widened_fact(f, state, new, v, round, marks, near);
     take_over(state, f, v, fact, live, &mut near.first);
