@@ -1,4 +1,4 @@
--- Each input is a module or is refused, it has at most one list of pieces, and at most one text.
+-- Each input is a module or there is a reason why it is none, it has at most one list of pieces, and at most one text is written for it.
 use Rattle.std.proofs.Common.{◌≡◌, ◌+◌, ◌-◌, ◌⊎◌, inl, inr, ℕ, zero, suc, Bool, true, false, if◌then◌else◌, Option, Some, None, Result, Ok, Err, List, [], ◌∷◌, ◌++◌, length, refl, sym, ap, subst, ◌∙◌, slice_range, drop}
 use Rattle.vfa_ir.specs.declared.functions.Function.{Function}
 use Rattle.vfa_ir.specs.declared.reasons.Outside.{Outside}
@@ -7,16 +7,16 @@ use Rattle.vfa_ir.specs.DefinedNames.{first_repeated}
 use Rattle.vfa_module.specs.declared.items.Item.{Item}
 use Rattle.vfa_module.specs.declared.items.SplitFault.{SplitFault}
 use Rattle.vfa_module.specs.Split.{Extent, is_clear, closing_brace, define_of_line, next_line, with_first, define_then, defines_after, defines_from, items_between, split_of}
-use Rattle.vfa_opt.specs.declared.jobs.Job.{Job}
 use Rattle.vfa_opt.specs.declared.refusals.Refused.{Refused}
 use Rattle.vfa_opt.specs.declared.work.Carried.{Carried}
+use Rattle.vfa_opt.specs.declared.writings.Writing.{Writing}
 use Rattle.vfa_opt.specs.Acceptance.{IsInside, IsOutside, in_module}
 use Rattle.vfa_check.specs.Checked.{IsChecked}
 use Rattle.vfa_print.specs.Trees.{function_text}
 use Rattle.vfa_report.specs.Report.{IsReport}
 use Rattle.vfa_opt.specs.Optimised.{IsOptimised}
-use Rattle.vfa_opt.specs.Module.{Piece, copied, accepted, carried, IsDefinePiece, IsPiece, ArePieces, IsFunctionText, IsPieceText, AreTexts, notes_of, function_names, carried_functions, Splits, IsModule, IsModuleText}
-use Rattle.vfa_opt.specs.Refusals.{IsRefusal}
+use Rattle.vfa_opt.specs.Module.{Piece, copied, accepted, carried, IsDefinePiece, IsPiece, ArePieces, IsFunctionText, IsPieceText, AreTexts, function_names, carried_functions, Splits, IsModule}
+use Rattle.vfa_opt.specs.Refusals.{IsModuleRefusal}
 
 -- ---- a split never answers that memory ran out
 
@@ -99,7 +99,7 @@ module _ (each : EachText) where
 
   module _ (strict : Bool) (input : List ℕ) where
     abbrev Answered : Type 0
-    Answered = ((pieces : List Piece) × IsModule strict input pieces) ⊎ ((reason : Refused) × IsRefusal strict input reason)
+    Answered = ((pieces : List Piece) × IsModule strict input pieces) ⊎ ((reason : Refused) × IsModuleRefusal strict input reason)
 
     by_carried : (pieces : List Piece) → Splits input pieces → first_repeated [] (function_names pieces) ≡ None → (l : List Carried) →
         carried_functions pieces ≡ l → (b : Bool) → strict ≡ b → Answered
@@ -198,45 +198,43 @@ OneList = (input : List ℕ) (ps qs : List Piece) → Splits input ps → Splits
 
 -- ---- at most one text
 
-abbrev OneReport : Type 0
+abbrev pub OneReport : Type 0
 OneReport = (f : Function) (s t : List ℕ) → IsReport f s → IsReport f t → s ≡ t
 
-abbrev OneOptimised : Type 0
+abbrev pub OneOptimised : Type 0
 OneOptimised = (f g g' : Function) → IsChecked f → IsOptimised f g → IsOptimised f g' → g ≡ g'
 
-abbrev WasChecked : Type 0
+abbrev pub WasChecked : Type 0
 WasChecked = (text : List ℕ) (f : Function) → IsInside text f → IsChecked f
 
-module _ (one : OneList) (report : OneReport) (optimised : OneOptimised) (checked : WasChecked) where
-  one_function_text : (job : Job) (f : Function) → IsChecked f → (s t : List ℕ) → IsFunctionText job f s → IsFunctionText job f t → s ≡ t
-  one_function_text Job.Opt f was s t p q = p.is ∙ (ap function_text (optimised f p.function q.function was p.is_optimised q.is_optimised) ∙ sym q.is)
-  one_function_text Job.Facts f was s t p q = report f s t p q
+module _ (report : OneReport) (optimised : OneOptimised) (checked : WasChecked) where
+  one_function_text : (writing : Writing) (f : Function) → IsChecked f → (s t : List ℕ) → IsFunctionText writing f s → IsFunctionText writing f t → s ≡ t
+  one_function_text Writing.Optimised f was s t p q = p.is ∙ (ap function_text (optimised f p.function q.function was p.is_optimised q.is_optimised) ∙ sym q.is)
+  one_function_text Writing.Reports f was s t p q = report f s t p q
+  one_function_text Writing.Nothing f was s t p q = p ∙ sym q
 
   was_checked : (input : List ℕ) (item : Item) (f : Function) → IsPiece input item (accepted f) → IsChecked f
   was_checked input (Item.Lines start end) f is = absurd (let other : accepted f ≡ copied (slice_range input start end) = is in cc)
   was_checked input (Item.Define start end line) f is = checked (slice_range input start end) f is
 
-  one_piece_text : (job : Job) (input : List ℕ) (item : Item) (piece : Piece) → IsPiece input item piece → (s t : List ℕ) → IsPieceText job piece s → IsPieceText job piece t → s ≡ t
-  one_piece_text job input item (copied bytes) is s t p q = p ∙ sym q
-  one_piece_text job input item (accepted f) is s t p q = one_function_text job f (was_checked input item f is) s t p q
-  one_piece_text job input item (carried bytes e) is s t p q = p ∙ sym q
+  one_piece_text : (writing : Writing) (input : List ℕ) (item : Item) (piece : Piece) → IsPiece input item piece → (s t : List ℕ) →
+      IsPieceText writing piece s → IsPieceText writing piece t → s ≡ t
+  one_piece_text writing input item (copied bytes) is s t p q = p ∙ sym q
+  one_piece_text writing input item (accepted f) is s t p q = one_function_text writing f (was_checked input item f is) s t p q
+  one_piece_text writing input item (carried bytes e) is s t p q = p ∙ sym q
 
-  one_text_of : (job : Job) (input : List ℕ) (items : List Item) (pieces : List Piece) → ArePieces input items pieces → (s t : List ℕ) →
-      AreTexts job pieces s → AreTexts job pieces t → s ≡ t
-  one_text_of job input [] [] are s t p q = p ∙ sym q
-  one_text_of job input [] (piece ∷ pieces) are s t p q = absurd are
-  one_text_of job input (item ∷ items) [] are s t p q = absurd are
-  one_text_of job input (item ∷ items) (piece ∷ pieces) are s t p q =
-      p.4 ∙ ap (λ x. x ++ p.1) (one_piece_text job input item piece are.0 p.0 q.0 p.2 q.2)
-      ∙ ap (λ x. q.0 ++ x) (one_text_of job input items pieces are.1 p.1 q.1 p.3 q.3) ∙ sym q.4
+  one_text_of : (writing : Writing) (input : List ℕ) (items : List Item) (pieces : List Piece) → ArePieces input items pieces → (s t : List ℕ) →
+      AreTexts writing pieces s → AreTexts writing pieces t → s ≡ t
+  one_text_of writing input [] [] are s t p q = p ∙ sym q
+  one_text_of writing input [] (piece ∷ pieces) are s t p q = absurd are
+  one_text_of writing input (item ∷ items) [] are s t p q = absurd are
+  one_text_of writing input (item ∷ items) (piece ∷ pieces) are s t p q =
+      p.4 ∙ ap (λ x. x ++ p.1) (one_piece_text writing input item piece are.0 p.0 q.0 p.2 q.2)
+      ∙ ap (λ x. q.0 ++ x) (one_text_of writing input items pieces are.1 p.1 q.1 p.3 q.3) ∙ sym q.4
 
-  pub one_module_text : (job : Job) (strict : Bool) (input text other notes others : List ℕ) → IsModuleText job strict input text notes →
-      IsModuleText job strict input other others → (text ≡ other) × (notes ≡ others)
-  one_module_text job strict input text other notes others p q =
-      let same : p.pieces ≡ q.pieces = one input p.pieces q.pieces p.«module».splits q.«module».splits in (
-        one_text_of job input q.«module».splits.items q.pieces q.«module».splits.are text other (subst (λ ps. AreTexts job ps text) same p.texts) q.texts,
-        p.notes_are ∙ ap notes_of same ∙ sym q.notes_are,
-      )
+  pub one_written : (writing : Writing) (input : List ℕ) (pieces : List Piece) → Splits input pieces → (s t : List ℕ) →
+      AreTexts writing pieces s → AreTexts writing pieces t → s ≡ t
+  one_written writing input pieces splits = one_text_of writing input splits.items pieces splits.are
 
 -- ---- at most one refusal
 
@@ -250,16 +248,24 @@ module _ (one : OneList) where
   repeated_distinct input ps qs name p q repeated distinct =
       none_some name (sym distinct ∙ ap (λ l. first_repeated [] (function_names l)) (one input qs ps q p) ∙ repeated)
 
-  pub one_refused : (strict : Bool) (input : List ℕ) (a b : Refused) → IsRefusal strict input a → IsRefusal strict input b → a ≡ b
+  pub one_refused : (strict : Bool) (input : List ℕ) (a b : Refused) → IsModuleRefusal strict input a → IsModuleRefusal strict input b → a ≡ b
   one_refused strict input (Refused.Unclosed m) (Refused.Unclosed n) p q = ap Refused.Unclosed (unclosed_same m n (sym p ∙ q))
   one_refused strict input (Refused.Unclosed m) (Refused.BadLine n) p q = absurd (unclosed_bad_line m n (sym p ∙ q))
   one_refused strict input (Refused.Unclosed m) (Refused.DuplicateFunction name) p q = absurd (split_no_fault input q.pieces (SplitFault.Unclosed m) q.splits p)
   one_refused strict input (Refused.Unclosed m) (Refused.Strict name why) p q = absurd (split_no_fault input q.1.pieces (SplitFault.Unclosed m) q.1.splits p)
+  one_refused strict input (Refused.Unclosed m) (Refused.NoFunction n) p q = absurd q
+  one_refused strict input (Refused.Unclosed m) (Refused.NoValue n) p q = absurd q
+  one_refused strict input (Refused.Unclosed m) (Refused.NoBlock n) p q = absurd q
+  one_refused strict input (Refused.Unclosed m) (Refused.NotDefined n b) p q = absurd q
   one_refused strict input (Refused.Unclosed m) Refused.Memory p q = absurd q
   one_refused strict input (Refused.BadLine m) (Refused.Unclosed n) p q = absurd (unclosed_bad_line n m (sym q ∙ p))
   one_refused strict input (Refused.BadLine m) (Refused.BadLine n) p q = ap Refused.BadLine (bad_line_same m n (sym p ∙ q))
   one_refused strict input (Refused.BadLine m) (Refused.DuplicateFunction name) p q = absurd (split_no_fault input q.pieces (SplitFault.BadLine m) q.splits p)
   one_refused strict input (Refused.BadLine m) (Refused.Strict name why) p q = absurd (split_no_fault input q.1.pieces (SplitFault.BadLine m) q.1.splits p)
+  one_refused strict input (Refused.BadLine m) (Refused.NoFunction n) p q = absurd q
+  one_refused strict input (Refused.BadLine m) (Refused.NoValue n) p q = absurd q
+  one_refused strict input (Refused.BadLine m) (Refused.NoBlock n) p q = absurd q
+  one_refused strict input (Refused.BadLine m) (Refused.NotDefined n b) p q = absurd q
   one_refused strict input (Refused.BadLine m) Refused.Memory p q = absurd q
   one_refused strict input (Refused.DuplicateFunction name) (Refused.Unclosed n) p q = absurd (split_no_fault input p.pieces (SplitFault.Unclosed n) p.splits q)
   one_refused strict input (Refused.DuplicateFunction name) (Refused.BadLine n) p q = absurd (split_no_fault input p.pieces (SplitFault.BadLine n) p.splits q)
@@ -268,6 +274,10 @@ module _ (one : OneList) where
       ap Refused.DuplicateFunction (some_same m n (sym p.repeated ∙ ap (λ ps. first_repeated [] (function_names ps)) same ∙ q.repeated))
   one_refused strict input (Refused.DuplicateFunction m) (Refused.Strict n why) p q =
       absurd (repeated_distinct input p.pieces q.1.pieces m p.splits q.1.splits p.repeated q.1.distinct)
+  one_refused strict input (Refused.DuplicateFunction name) (Refused.NoFunction n) p q = absurd q
+  one_refused strict input (Refused.DuplicateFunction name) (Refused.NoValue n) p q = absurd q
+  one_refused strict input (Refused.DuplicateFunction name) (Refused.NoBlock n) p q = absurd q
+  one_refused strict input (Refused.DuplicateFunction name) (Refused.NotDefined n b) p q = absurd q
   one_refused strict input (Refused.DuplicateFunction name) Refused.Memory p q = absurd q
   one_refused strict input (Refused.Strict name why) (Refused.Unclosed n) p q = absurd (split_no_fault input p.1.pieces (SplitFault.Unclosed n) p.1.splits q)
   one_refused strict input (Refused.Strict name why) (Refused.BadLine n) p q = absurd (split_no_fault input p.1.pieces (SplitFault.BadLine n) p.1.splits q)
@@ -279,11 +289,19 @@ module _ (one : OneList) where
       let b : Carried = record { name = n; reason = other } in
       let first : a ≡ b = first_same a b p.1.later q.1.later (sym p.1.first ∙ ap carried_functions same ∙ q.1.first) in
       ap (λ (c : Carried). Refused.Strict c.name c.reason) first
+  one_refused strict input (Refused.Strict name why) (Refused.NoFunction n) p q = absurd q
+  one_refused strict input (Refused.Strict name why) (Refused.NoValue n) p q = absurd q
+  one_refused strict input (Refused.Strict name why) (Refused.NoBlock n) p q = absurd q
+  one_refused strict input (Refused.Strict name why) (Refused.NotDefined n b) p q = absurd q
   one_refused strict input (Refused.Strict name why) Refused.Memory p q = absurd q
+  one_refused strict input (Refused.NoFunction n) b p q = absurd p
+  one_refused strict input (Refused.NoValue n) b p q = absurd p
+  one_refused strict input (Refused.NoBlock n) b p q = absurd p
+  one_refused strict input (Refused.NotDefined n c) b p q = absurd p
   one_refused strict input Refused.Memory b p q = absurd p
 
   pub module_not_refused : (strict : Bool) (input : List ℕ) (pieces : List Piece) (r : Refused) → IsModule strict input pieces →
-      IsRefusal strict input r → ⊥
+      IsModuleRefusal strict input r → ⊥
   module_not_refused strict input pieces (Refused.Unclosed n) m is = split_no_fault input pieces (SplitFault.Unclosed n) m.splits is
   module_not_refused strict input pieces (Refused.BadLine n) m is = split_no_fault input pieces (SplitFault.BadLine n) m.splits is
   module_not_refused strict input pieces (Refused.DuplicateFunction name) m is =
@@ -291,4 +309,8 @@ module _ (one : OneList) where
   module_not_refused strict input pieces (Refused.Strict name why) m is =
       let same : pieces ≡ is.1.pieces = one input pieces is.1.pieces m.splits is.1.splits in
       none_first (record { name = name; reason = why }) is.1.later (sym (m.whole is.0) ∙ ap carried_functions same ∙ is.1.first)
+  module_not_refused strict input pieces (Refused.NoFunction n) m is = absurd is
+  module_not_refused strict input pieces (Refused.NoValue n) m is = absurd is
+  module_not_refused strict input pieces (Refused.NoBlock n) m is = absurd is
+  module_not_refused strict input pieces (Refused.NotDefined n c) m is = absurd is
   module_not_refused strict input pieces Refused.Memory m is = absurd is

@@ -10,13 +10,16 @@ use Rattle.vfa_module.specs.declared.items.Item.{Item}
 use Rattle.vfa_module.specs.Defines.{IsPart}
 use Rattle.vfa_module.specs.Split.{Cover, start_of, end_of, split_of}
 use Rattle.vfa_opt.specs.declared.jobs.Job.{Job}
+use Rattle.vfa_opt.specs.declared.joined.Whole.{Whole}
 use Rattle.vfa_opt.specs.declared.joined.Text.{Text}
 use Rattle.vfa_opt.specs.declared.refusals.Refused.{Refused}
 use Rattle.vfa_opt.specs.declared.work.Worked.{Worked}
-use Rattle.vfa_opt.specs.Module.{Piece, ArePieces, AreTexts, piece_name, piece_carried, piece_note, function_names, carried_functions, notes_of, Splits, IsModule, IsModuleText}
-use Rattle.vfa_opt.specs.Refusals.{IsRefusal}
-use Rattle.vfa_opt.specs.Sound.{IsSoundPiece}
-use Rattle.vfa_opt.specs.Works.{IsPlaced, IsWorked, AreWorked, IsRefusedFor, IsWithin, worked_text, texts_in, notes_in, names_in, carried_in}
+use Rattle.vfa_opt.specs.declared.writings.Writing.{Writing}
+use Rattle.vfa_opt.specs.Module.{Piece, ArePieces, AreTexts, piece_name, piece_carried, piece_note, function_named, function_names, carried_functions, notes_of, Splits, IsModule, IsModuleText}
+use Rattle.vfa_opt.specs.Refusals.{IsModuleRefusal, IsRefusal, IsAnswerable}
+use Rattle.vfa_opt.specs.Sound.{IsSoundFor, IsSoundPiece}
+use Rattle.vfa_opt.specs.Works.{IsItemOf, IsPlaced, IsWorked, AreWorked, IsRefusedFor, IsWithin, IsWritten, item_named, worked_text, texts_in, notes_in, names_in, carried_in}
+use Rattle.vfa_opt.proofs.NamedItems.{one_named}
 use Rattle.vfa_opt.proofs.ReasonLines.{feeds_few}
 
 -- ---- items
@@ -50,47 +53,50 @@ pub may_run : (input : List ℕ) (items : List Item) → length input ≤ 167772
 may_run input [] limit all = tt
 may_run input (i ∷ items) limit all = ((all.0, limit), may_run input items limit all.1)
 
-pub within_all : (job : Job) (input : List ℕ) (items : List Item) (all : List Worked) → AreWorked job input items all → AllByRecursion (IsWithin input) all
-within_all job input [] [] are = tt
-within_all job input [] (w ∷ all) are = absurd are
-within_all job input (i ∷ items) [] are = absurd are
-within_all job input (i ∷ items) (w ∷ all) are = (are.0.work.within, within_all job input items all are.1)
+pub within_all : (writing : Writing) (input : List ℕ) (items : List Item) (all : List Worked) → AreWorked writing input items all → AllByRecursion (IsWithin input) all
+within_all writing input [] [] are = tt
+within_all writing input [] (w ∷ all) are = absurd are
+within_all writing input (i ∷ items) [] are = absurd are
+within_all writing input (i ∷ items) (w ∷ all) are = (are.0.work.within, within_all writing input items all are.1)
 
 -- ---- the pieces
 
 -- the pieces of the items, and what the works say of them
-pub record PiecesOf (job : Job) (input : List ℕ) (items : List Item) (all : List Worked) : Type 0 where
+pub record PiecesOf (writing : Writing) (input : List ℕ) (items : List Item) (all : List Worked) : Type 0 where
   pub pieces : List Piece
   pub are : ArePieces input items pieces
-  pub texts : AreTexts job pieces (texts_in job input all)
-  pub sound : AllByRecursion (IsSoundPiece job) pieces
+  pub texts : AreTexts writing pieces (texts_in writing input all)
+  pub sound : AllByRecursion (IsSoundPiece writing) pieces
   pub notes : notes_in all ≡ notes_of pieces
   pub names : names_in all ≡ function_names pieces
   pub carried : carried_in all ≡ carried_functions pieces
+  pub named : (name : List ℕ) → IsItemOf input (item_named name items all) (function_named name pieces)
 
-one_more : (job : Job) (input : List ℕ) (item : Item) (items : List Item) (worked : Worked) (all : List Worked) → IsWorked job input item worked →
-    PiecesOf job input items all → PiecesOf job input (item ∷ items) (worked ∷ all)
-one_more job input item items worked all one rest = record {
+one_more : (writing : Writing) (input : List ℕ) (item : Item) (items : List Item) (worked : Worked) (all : List Worked) → IsWorked writing input item worked →
+    PiecesOf writing input items all → PiecesOf writing input (item ∷ items) (worked ∷ all)
+one_more writing input item items worked all one rest = record {
   pieces = one.piece ∷ rest.pieces;
   are = (one.is, rest.are);
-  texts = (worked_text job input worked, texts_in job input all, one.work.text, rest.texts, refl);
+  texts = (worked_text writing input worked, texts_in writing input all, one.work.text, rest.texts, refl);
   sound = (one.work.sound, rest.sound);
   notes = ap (λ n. n ++ notes_in all) one.work.note ∙ ap (λ n. piece_note one.piece ++ n) rest.notes;
   names = ap (λ n. cons_option n (names_in all)) one.work.name ∙ ap (cons_option (piece_name one.piece)) rest.names;
   carried = ap (λ n. cons_option n (carried_in all)) one.work.carried ∙ ap (cons_option (piece_carried one.piece)) rest.carried;
+  named = λ name. one_named name input item items worked all one.piece rest.pieces one.is (rest.named name) one.work.name;
 }
 
-pub pieces_of : (job : Job) (input : List ℕ) (items : List Item) (all : List Worked) → AreWorked job input items all → PiecesOf job input items all
-pieces_of job input [] [] are = record { pieces = []; are = tt; texts = refl; sound = tt; notes = refl; names = refl; carried = refl }
-pieces_of job input [] (w ∷ all) are = absurd are
-pieces_of job input (i ∷ items) [] are = absurd are
-pieces_of job input (i ∷ items) (w ∷ all) are = one_more job input i items w all are.0 (pieces_of job input items all are.1)
+pub pieces_of : (writing : Writing) (input : List ℕ) (items : List Item) (all : List Worked) → AreWorked writing input items all → PiecesOf writing input items all
+pieces_of writing input [] [] are = record { pieces = []; are = tt; texts = refl; sound = tt; notes = refl; names = refl; carried = refl; named = λ name. tt }
+pieces_of writing input [] (w ∷ all) are = absurd are
+pieces_of writing input (i ∷ items) [] are = absurd are
+pieces_of writing input (i ∷ items) (w ∷ all) are = one_more writing input i items w all are.0 (pieces_of writing input items all are.1)
 
 -- ---- modules
 
-module _ (job : Job) (strict : Bool) (input : List ℕ) (items : List Item) (all : List Worked) (split : split_of input ≡ Ok items) (are : AreWorked job input items all) where
-  abbrev found : PiecesOf job input items all
-  found = pieces_of job input items all are
+module _ (writing : Writing) (strict : Bool) (input : List ℕ) (items : List Item) (all : List Worked) (split : split_of input ≡ Ok items)
+    (are : AreWorked writing input items all) where
+  abbrev pub found : PiecesOf writing input items all
+  found = pieces_of writing input items all are
 
   abbrev splits : Splits input found.pieces
   splits = record { items = items; split = split; are = found.are }
@@ -102,21 +108,19 @@ module _ (job : Job) (strict : Bool) (input : List ℕ) (items : List Item) (all
     whole = λ is. sym found.carried ∙ whole is;
   }
 
-  pub text_so : (out notes : List ℕ) → out ≡ texts_in job input all → notes ≡ notes_in all → first_repeated [] (names_in all) ≡ None →
-      (strict ≡ true → carried_in all ≡ []) → IsModuleText job strict input out notes
-  text_so out notes out_is notes_is distinct whole = record {
+  written_so : (j : Whole) → j.out.items ≡ texts_in writing input all → j.notes.items ≡ notes_in all → j.carried ≡ length (carried_in all) →
+      first_repeated [] (names_in all) ≡ None → (strict ≡ true → carried_in all ≡ []) →
+      IsWritten writing strict input j.out.items j.notes.items j.carried
+  written_so j out notes carried distinct whole = record {
     pieces = found.pieces;
     «module» = module_so distinct whole;
-    texts = subst (λ o. AreTexts job found.pieces o) (sym out_is) found.texts;
-    notes_are = notes_is ∙ found.notes;
+    texts = subst (λ o. AreTexts writing found.pieces o) (sym out) found.texts;
+    sound = All-from_recursion (IsSoundPiece writing) found.pieces found.sound;
+    notes_are = notes ∙ found.notes;
+    count = carried ∙ ap length found.carried;
   }
 
-  pub sound_so : first_repeated [] (names_in all) ≡ None → (strict ≡ true → carried_in all ≡ []) →
-      (pieces : List Piece) × IsModule strict input pieces × All (IsSoundPiece job) pieces
-  sound_so distinct whole =
-      (found.pieces, module_so distinct whole, All-from_recursion (IsSoundPiece job) found.pieces found.sound)
-
-  refusal_so : (e : Refused) → IsRefusedFor strict all e → IsRefusal strict input e
+  refusal_so : (e : Refused) → IsRefusedFor strict all e → IsModuleRefusal strict input e
   refusal_so (Refused.Unclosed start) is = absurd is
   refusal_so (Refused.BadLine line) is = absurd is
   refusal_so (Refused.DuplicateFunction name) is =
@@ -131,57 +135,60 @@ module _ (job : Job) (strict : Bool) (input : List ℕ) (items : List Item) (all
       first = sym found.carried ∙ is.2.1;
     },
   )
+  refusal_so (Refused.NoFunction name) is = absurd is
+  refusal_so (Refused.NoValue name) is = absurd is
+  refusal_so (Refused.NoBlock name) is = absurd is
+  refusal_so (Refused.NotDefined value block) is = absurd is
   refusal_so Refused.Memory is = absurd is
 
-  pub refused_so : (e : Refused) → (e ≡ Refused.Memory) ⊎ IsRefusedFor strict all e → (e ≡ Refused.Memory) ⊎ IsRefusal strict input e
+  pub refused_so : (e : Refused) → (e ≡ Refused.Memory) ⊎ IsRefusedFor strict all e → (e ≡ Refused.Memory) ⊎ IsModuleRefusal strict input e
   refused_so e (inl memory) = inl memory
   refused_so e (inr is) = inr (refusal_so e is)
 
-  pub text_in : (r : Result Text Refused) → IfOk r (λ text. text.out.items ≡ texts_in job input all) → IfOk r (λ text. text.notes.items ≡ notes_in all) →
-      OnOk r (first_repeated [] (names_in all) ≡ None) → OnOk r (strict ≡ true → carried_in all ≡ []) →
-      IfOk r (λ text. IsModuleText job strict input text.out.items text.notes.items)
-  text_in (Ok text) out notes distinct whole = text_so text.out.items text.notes.items out notes distinct whole
-  text_in (Err e) out notes distinct whole = tt
+  pub written_in : (r : Result Whole Refused) → IfOk r (λ j. j.out.items ≡ texts_in writing input all) → IfOk r (λ j. j.notes.items ≡ notes_in all) →
+      IfOk r (λ j. j.carried ≡ length (carried_in all)) → OnOk r (first_repeated [] (names_in all) ≡ None) → OnOk r (strict ≡ true → carried_in all ≡ []) →
+      IfOk r (λ j. IsWritten writing strict input j.out.items j.notes.items j.carried)
+  written_in (Ok j) out notes carried distinct whole = written_so j out notes carried distinct whole
+  written_in (Err e) out notes carried distinct whole = tt
 
-  pub sound_in : (r : Result Text Refused) → OnOk r (first_repeated [] (names_in all) ≡ None) →
-      OnOk r (strict ≡ true → carried_in all ≡ []) → OnOk r ((pieces : List Piece) × IsModule strict input pieces × All (IsSoundPiece job) pieces)
-  sound_in (Ok text) distinct whole = sound_so distinct whole
-  sound_in (Err e) distinct whole = tt
-
-  pub refused_in : (r : Result Text Refused) → IfErr r (λ e. (e ≡ Refused.Memory) ⊎ IsRefusedFor strict all e) →
-      IfErr r (λ e. (e ≡ Refused.Memory) ⊎ IsRefusal strict input e)
-  refused_in (Ok text) is = tt
+  pub refused_in : (r : Result Whole Refused) → IfErr r (λ e. (e ≡ Refused.Memory) ⊎ IsRefusedFor strict all e) →
+      IfErr r (λ e. (e ≡ Refused.Memory) ⊎ IsModuleRefusal strict input e)
+  refused_in (Ok j) is = tt
   refused_in (Err e) is = refused_so e is
 
 -- ---- answers
 
 module _ (job : Job) (strict : Bool) (input : List ℕ) where
+  same_pieces : (ps qs : List Piece) → ps ≡ qs → IsSoundFor job ps → IsSoundFor job qs
+  same_pieces ps qs same = subst (IsSoundFor job) same
+
   pub sound_each : ((ps qs : List Piece) → Splits input ps → Splits input qs → ps ≡ qs) → (r : Result Text Refused) →
-      OnOk r ((pieces : List Piece) × IsModule strict input pieces × All (IsSoundPiece job) pieces) →
-      OnOk r ((pieces : List Piece) → IsModule strict input pieces → All (IsSoundPiece job) pieces)
-  sound_each one (Ok text) is = λ pieces m. subst (λ ps. All (IsSoundPiece job) ps) (one is.0 pieces is.1.splits m.splits) is.2
+      OnOk r ((pieces : List Piece) × IsModule strict input pieces × IsSoundFor job pieces) →
+      OnOk r ((pieces : List Piece) → IsModule strict input pieces → IsSoundFor job pieces)
+  sound_each one (Ok text) is = λ pieces m. same_pieces is.0 pieces (one is.0 pieces is.1.splits m.splits) is.2
   sound_each one (Err e) is = tt
 
-  memory_for : (pieces : List Piece) → IsModule strict input pieces → ((reason : Refused) → IsModule strict input pieces → IsRefusal strict input reason → ⊥) →
-      (e : Refused) → (e ≡ Refused.Memory) ⊎ IsRefusal strict input e → e ≡ Refused.Memory
-  memory_for pieces m none e (inl memory) = memory
-  memory_for pieces m none e (inr is) = absurd (none e m is)
+  memory_for : (pieces : List Piece) → IsModule strict input pieces → IsAnswerable job pieces →
+      ((reason : Refused) → IsModule strict input pieces → IsAnswerable job pieces → IsRefusal job strict input reason → ⊥) →
+      (e : Refused) → (e ≡ Refused.Memory) ⊎ IsRefusal job strict input e → e ≡ Refused.Memory
+  memory_for pieces m can none e (inl memory) = memory
+  memory_for pieces m can none e (inr is) = absurd (none e m can is)
 
-  pub answers_in : ((pieces : List Piece) (reason : Refused) → IsModule strict input pieces → IsRefusal strict input reason → ⊥) → (r : Result Text Refused) →
-      IfErr r (λ e. (e ≡ Refused.Memory) ⊎ IsRefusal strict input e) → (pieces : List Piece) → IsModule strict input pieces →
-      IfErr r (λ e. e ≡ Refused.Memory)
-  answers_in none (Ok text) is pieces m = tt
-  answers_in none (Err e) is pieces m = memory_for pieces m (none pieces) e is
+  pub answers_in : ((pieces : List Piece) (reason : Refused) → IsModule strict input pieces → IsAnswerable job pieces → IsRefusal job strict input reason → ⊥) →
+      (r : Result Text Refused) → IfErr r (λ e. (e ≡ Refused.Memory) ⊎ IsRefusal job strict input e) → (pieces : List Piece) →
+      IsModule strict input pieces → IsAnswerable job pieces → IfErr r (λ e. e ≡ Refused.Memory)
+  answers_in none (Ok text) is pieces m can = tt
+  answers_in none (Err e) is pieces m can = memory_for pieces m can (none pieces) e is
 
-  reason_for : ((a b : Refused) → IsRefusal strict input a → IsRefusal strict input b → a ≡ b) → (reason : Refused) → IsRefusal strict input reason →
-      (e : Refused) → (e ≡ Refused.Memory) ⊎ IsRefusal strict input e → (e ≡ reason) ⊎ (e ≡ Refused.Memory)
+  reason_for : ((a b : Refused) → IsRefusal job strict input a → IsRefusal job strict input b → a ≡ b) → (reason : Refused) →
+      IsRefusal job strict input reason → (e : Refused) → (e ≡ Refused.Memory) ⊎ IsRefusal job strict input e → (e ≡ reason) ⊎ (e ≡ Refused.Memory)
   reason_for one reason holds e (inl memory) = inr memory
   reason_for one reason holds e (inr is) = inl (one e reason is holds)
 
-  pub refuses_in : ((a b : Refused) → IsRefusal strict input a → IsRefusal strict input b → a ≡ b) →
-      ((pieces : List Piece) (reason : Refused) → IsModule strict input pieces → IsRefusal strict input reason → ⊥) → (r : Result Text Refused) →
+  pub refuses_in : ((a b : Refused) → IsRefusal job strict input a → IsRefusal job strict input b → a ≡ b) →
+      ((text notes : List ℕ) (reason : Refused) → IsModuleText job strict input text notes → IsRefusal job strict input reason → ⊥) → (r : Result Text Refused) →
       IfOk r (λ text. IsModuleText job strict input text.out.items text.notes.items) →
-      IfErr r (λ e. (e ≡ Refused.Memory) ⊎ IsRefusal strict input e) → (reason : Refused) → IsRefusal strict input reason →
+      IfErr r (λ e. (e ≡ Refused.Memory) ⊎ IsRefusal job strict input e) → (reason : Refused) → IsRefusal job strict input reason →
       OnOk r ⊥ × IfErr r (λ e. (e ≡ reason) ⊎ (e ≡ Refused.Memory))
-  refuses_in one none (Ok text) has is reason holds = (none has.pieces reason has.«module» holds, tt)
+  refuses_in one none (Ok text) has is reason holds = (none text.out.items text.notes.items reason has holds, tt)
   refuses_in one none (Err e) has is reason holds = (tt, reason_for one reason holds e is)

@@ -1,4 +1,5 @@
 pub mod Acceptance
+pub mod Asked
 pub mod Generated
 pub mod GeneratedLines
 pub mod Module

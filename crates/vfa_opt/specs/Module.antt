@@ -1,5 +1,6 @@
--- The text of a module: what a job writes for each of its pieces, and the notes on the functions that stay as they are.
-use Rattle.std.specs.Prelude.{◌≡◌, ⊤, ℕ, Bool, true, List, [], ◌∷◌, ◌++◌, flat_map, filter_map, Option, Some, None, Ok, codes, decimal, slice_range}
+-- The text of a module: what is written for each of its pieces, the notes on the functions that stay as they are, and what a job makes
+-- of it.
+use Rattle.std.specs.Prelude.{◌≡◌, ⊤, ℕ, Bool, true, List, [], ◌∷◌, ◌++◌, length, flat_map, filter_map, if◌then◌else◌, Option, Some, None, Ok, bytes_eq, codes, decimal, slice_range}
 use Rattle.vfa_ir.specs.declared.functions.Function.{Function}
 use Rattle.vfa_ir.specs.declared.reasons.Kind.{Kind}
 use Rattle.vfa_ir.specs.declared.reasons.Outside.{Outside}
@@ -13,8 +14,12 @@ use Rattle.vfa_module.specs.Split.{split_of}
 use Rattle.vfa_print.specs.Layout.{name_text, line_feed}
 use Rattle.vfa_report.specs.Report.{IsReport}
 use Rattle.vfa_opt.specs.declared.jobs.Job.{Job}
+use Rattle.vfa_opt.specs.declared.questions.Question.{Question}
 use Rattle.vfa_opt.specs.declared.work.Carried.{Carried}
+use Rattle.vfa_opt.specs.declared.writings.Writing.{Writing}
 use Rattle.vfa_opt.specs.Acceptance.{IsInside, StaysFor}
+use Rattle.vfa_opt.specs.Asked.{IsAnswerText}
+use Rattle.vfa_opt.specs.Generated.{generated_text, summary_text}
 use Rattle.vfa_opt.specs.Optimised.{IsOptimisedText}
 
 -- A piece of a module: bytes between defines, a define that is a function of the profile, or a define that stays as it
@@ -39,26 +44,28 @@ ArePieces input [] [] = ⊤
 ArePieces input (item ∷ items) (piece ∷ pieces) = IsPiece input item piece × ArePieces input items pieces
 ArePieces input _ _ = ⊥
 
--- What a job writes for an accepted function. `opt`: the text of the optimised function; `facts`: the report by its table.
-abbrev pub IsFunctionText : Job → Function → List ℕ → Type 0
-IsFunctionText Job.Opt = IsOptimisedText
-IsFunctionText Job.Facts = IsReport
+-- what is written for an accepted function: the text of the optimised function, the report by its table, or nothing
+abbrev pub IsFunctionText : Writing → Function → List ℕ → Type 0
+IsFunctionText Writing.Optimised f text = IsOptimisedText f text
+IsFunctionText Writing.Reports f text = IsReport f text
+IsFunctionText Writing.Nothing f text = text ≡ []
 
--- what a job writes for all other bytes: `opt` copies them, and `facts` leaves them out
-abbrev pub kept_bytes : Job → List ℕ → List ℕ
-kept_bytes Job.Opt bytes = bytes
-kept_bytes Job.Facts bytes = []
+-- what is kept of all other bytes: beside optimised functions all of them, and else none
+abbrev pub kept_bytes : Writing → List ℕ → List ℕ
+kept_bytes Writing.Optimised bytes = bytes
+kept_bytes Writing.Reports bytes = []
+kept_bytes Writing.Nothing bytes = []
 
--- what a job writes for a piece
-abbrev pub IsPieceText : Job → Piece → List ℕ → Type 0
-IsPieceText job (copied bytes) text = text ≡ kept_bytes job bytes
-IsPieceText job (accepted f) text = IsFunctionText job f text
-IsPieceText job (carried bytes _) text = text ≡ kept_bytes job bytes
+-- what is written for a piece
+abbrev pub IsPieceText : Writing → Piece → List ℕ → Type 0
+IsPieceText writing (copied bytes) text = text ≡ kept_bytes writing bytes
+IsPieceText writing (accepted f) text = IsFunctionText writing f text
+IsPieceText writing (carried bytes _) text = text ≡ kept_bytes writing bytes
 
-abbrev pub AreTexts : Job → List Piece → List ℕ → Type 0
-AreTexts job [] text = text ≡ []
-AreTexts job (piece ∷ pieces) text =
-    (first : List ℕ) × (rest : List ℕ) × IsPieceText job piece first × AreTexts job pieces rest × (text ≡ first ++ rest)
+abbrev pub AreTexts : Writing → List Piece → List ℕ → Type 0
+AreTexts writing [] text = text ≡ []
+AreTexts writing (piece ∷ pieces) text =
+    (first : List ℕ) × (rest : List ℕ) × IsPieceText writing piece first × AreTexts writing pieces rest × (text ≡ first ++ rest)
 
 -- Functions
 
@@ -78,6 +85,16 @@ piece_name (carried _ _) = None
 
 abbrev pub function_names : List Piece → List (List ℕ)
 function_names = filter_map piece_name
+
+-- the first accepted function of a name
+abbrev pub function_of : List ℕ → Piece → Option Function
+function_of name (copied _) = None
+function_of name (accepted f) = if bytes_eq name f.name then Some f else None
+function_of name (carried _ _) = None
+
+abbrev pub function_named : List ℕ → List Piece → Option Function
+function_named name [] = None
+function_named name (piece ∷ pieces) = elim (function_of name piece) [ None ↦ function_named name pieces | Some f ↦ Some f ]
 
 -- a function that stays as it is, and why
 abbrev pub piece_carried : Piece → Option Carried
@@ -138,9 +155,37 @@ pub record IsModule (strict : Bool) (input : List ℕ) (pieces : List Piece) : T
   pub distinct : first_repeated [] (function_names pieces) ≡ None
   pub whole : strict ≡ true → carried_functions pieces ≡ []
 
+-- Jobs
+
+-- what a job reads: for a run on itself the generated text
+abbrev pub input_of : Job → List ℕ → List ℕ
+input_of Job.Opt bytes = bytes
+input_of Job.Facts bytes = bytes
+input_of (Job.Ask question) bytes = bytes
+input_of (Job.SelfRun seed) bytes = generated_text seed
+
+-- the text is the answer to the question, which is about the first accepted function of its name
+pub record IsAskedText (question : Question) (pieces : List Piece) (text : List ℕ) : Type 0 where
+  pub function : Function
+  pub named : function_named question.function pieces ≡ Some function
+  pub answers : IsAnswerText function question text
+
+-- the text says how long the input and its optimised text are, and how many functions stay as they are
+pub record IsSummary (seed : ℕ) (input : List ℕ) (pieces : List Piece) (text : List ℕ) : Type 0 where
+  pub printed : List ℕ
+  pub texts : AreTexts Writing.Optimised pieces printed
+  pub is : text ≡ summary_text seed (length input) (length printed) (length (carried_functions pieces))
+
+-- what a job makes of the pieces of its input
+abbrev pub IsJobText : Job → List ℕ → List Piece → List ℕ → Type 0
+IsJobText Job.Opt input pieces text = AreTexts Writing.Optimised pieces text
+IsJobText Job.Facts input pieces text = AreTexts Writing.Reports pieces text
+IsJobText (Job.Ask question) input pieces text = IsAskedText question pieces text
+IsJobText (Job.SelfRun seed) input pieces text = IsSummary seed input pieces text
+
 -- the job's text of a module, and the notes on it
 pub record IsModuleText (job : Job) (strict : Bool) (input text notes : List ℕ) : Type 0 where
   pub pieces : List Piece
   pub «module» : IsModule strict input pieces
-  pub texts : AreTexts job pieces text
+  pub texts : IsJobText job input pieces text
   pub notes_are : notes ≡ notes_of pieces

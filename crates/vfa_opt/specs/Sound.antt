@@ -1,5 +1,5 @@
 -- What is claimed of the texts that stand for accepted functions.
-use Rattle.std.specs.Prelude.{⊤, ℕ, List, All}
+use Rattle.std.specs.Prelude.{◌≡◌, ⊤, ℕ, List, All, Some}
 use Rattle.vfa_ir.specs.declared.functions.Function.{Function}
 use Rattle.vfa_ir.specs.declared.functions.Lines.{Lines}
 use Rattle.vfa_ir.specs.Reads.{Reads}
@@ -12,7 +12,10 @@ use Rattle.vfa_report.specs.Report.{IsReport, report_lines}
 use Rattle.vfa_report.specs.BestBits.{LineIsBest}
 use Rattle.vfa_report.specs.ReportTruth.{LineHolds}
 use Rattle.vfa_opt.specs.declared.jobs.Job.{Job}
-use Rattle.vfa_opt.specs.Module.{Piece, copied, accepted, carried, IsFunctionText}
+use Rattle.vfa_opt.specs.declared.questions.Question.{Question}
+use Rattle.vfa_opt.specs.declared.writings.Writing.{Writing}
+use Rattle.vfa_opt.specs.Asked.{IsAnswerText, IsTrueAnswer}
+use Rattle.vfa_opt.specs.Module.{Piece, copied, accepted, carried, IsFunctionText, function_named}
 
 -- A text that reads as a function which refines this one: for all arguments, all answers of the functions that it calls, and any number
 -- of entered blocks it has only outcomes that this one allows. And each operand of this one that the table knows to be one number is
@@ -32,13 +35,26 @@ pub record IsTrueReport (f : Function) (text : List ℕ) : Type 0 where
   pub holds : All (LineHolds f) (report_lines f report.table)
   pub best : All (LineIsBest f report.table) (report_lines f report.table)
 
--- what is claimed of a job's text for a function
-abbrev pub IsSound : Job → Function → List ℕ → Type 0
-IsSound Job.Opt = IsRefinement
-IsSound Job.Facts = IsTrueReport
+-- what is claimed of the text that is written for a function
+abbrev pub IsSound : Writing → Function → List ℕ → Type 0
+IsSound Writing.Optimised f text = IsRefinement f text
+IsSound Writing.Reports f text = IsTrueReport f text
+IsSound Writing.Nothing f text = ⊤
 
--- what a job writes for an accepted function is sound
-abbrev pub IsSoundPiece : Job → Piece → Type 0
-IsSoundPiece job (copied _) = ⊤
-IsSoundPiece job (accepted f) = (text : List ℕ) → IsFunctionText job f text → IsSound job f text
-IsSoundPiece job (carried _ _) = ⊤
+-- what is written for an accepted function is sound
+abbrev pub IsSoundPiece : Writing → Piece → Type 0
+IsSoundPiece writing (copied _) = ⊤
+IsSoundPiece writing (accepted f) = (text : List ℕ) → IsFunctionText writing f text → IsSound writing f text
+IsSoundPiece writing (carried _ _) = ⊤
+
+-- each answer to a question about the pieces of a module is true
+abbrev pub IsSoundAnswer : Question → List Piece → Type 0
+IsSoundAnswer question pieces =
+    (f : Function) → function_named question.function pieces ≡ Some f → (text : List ℕ) → IsAnswerText f question text → IsTrueAnswer f question text
+
+-- what a job makes of the pieces of a module is sound; a run on itself optimises them
+abbrev pub IsSoundFor : Job → List Piece → Type 0
+IsSoundFor Job.Opt pieces = All (IsSoundPiece Writing.Optimised) pieces
+IsSoundFor Job.Facts pieces = All (IsSoundPiece Writing.Reports) pieces
+IsSoundFor (Job.Ask question) pieces = IsSoundAnswer question pieces
+IsSoundFor (Job.SelfRun seed) pieces = All (IsSoundPiece Writing.Optimised) pieces

@@ -1,67 +1,26 @@
-//! Whole modules: what a job writes for each function of the profile, and for all other bytes.
+//! Whole modules: what a job makes of them.
 
-ghost use Rattle.std.specs.Prelude.{◌≡◌, ◌≤◌, ◌⊎◌, ◌^◌, Bool, List, length, All, Ok, OnOk, IfOk, IfErr};
-ghost use Rattle.std.specs.List.{AllByRecursion};
-ghost use Rattle.vfa_module.specs.Split.{split_of};
-ghost use Rattle.vfa_opt.specs.Module.{Piece, IsModule, IsModuleText};
-ghost use Rattle.vfa_opt.specs.Sound.{IsSoundPiece};
-ghost use Rattle.vfa_opt.specs.Refusals.{IsRefusal};
-ghost use Rattle.vfa_opt.specs.Works.{IsPlaced, AreWorked};
+ghost use Rattle.std.specs.Prelude.{◌≡◌, ◌≤◌, ◌⊎◌, ◌^◌, List, length, OnOk, IfOk, IfErr};
+ghost use Rattle.vfa_opt.specs.Module.{Piece, IsModule, IsModuleText, input_of};
+ghost use Rattle.vfa_opt.specs.Sound.{IsSoundFor};
+ghost use Rattle.vfa_opt.specs.Refusals.{IsAnswerable, IsRefusal};
 ghost use Rattle.vfa_opt.specs.declared.refusals.Refused.{Refused};
 ghost use Rattle.vfa_opt.specs.declared.refusals.Refused.TheVariants.{Memory};
 
-use crate::item_work::ItemWork;
+use crate::asked_out::asked_out;
 use crate::jobs::Job;
-use crate::joined::{Text, joined};
+use crate::joined::Text;
 use crate::laws::{one_list_of_pieces, one_refusal};
 use crate::refusals::Refused;
-use crate::work::Worked;
-use std::alloc::{AllocError, AllocGlobal, Global};
+use crate::self_run::self_out;
+use crate::writings::Writing;
+use crate::written::worked_out;
+use std::alloc::AllocGlobal;
 use std::thread::Threads;
-use vfa_module::{Item, SplitFault, split};
-use vfa_par::{Gate, each};
+use vfa_par::Gate;
 
-/// The items of a module's text.
-fn items_of(alloc: Global, bytes: &[u8]) -> Result<Vec<Item>, Refused>
-    requires { length bytes.now ≤ 16777216 }
-    ensures items { IfOk result (λ items. split_of bytes.now ≡ Ok items.items) }
-    ensures places { IfOk result (λ items. AllByRecursion (IsPlaced bytes.now) items.items) }
-    ensures refused { (strict : Bool) → IfErr result (λ e. (e ≡ Memory) ⊎ IsRefusal strict bytes.now e) }
-{
-    match split(alloc, bytes) {
-        Ok(items) => Ok(items),
-        Err(SplitFault::Unclosed(start)) => Err(Refused::Unclosed(start)),
-        Err(SplitFault::BadLine(line)) => Err(Refused::BadLine(line)),
-        Err(SplitFault::Memory) => Err(Refused::Memory),
-    }
-}
-
-/// The works on the items, in order, done by so many workers.
-fn works<R: AllocGlobal + Threads + Sync, G: Gate>(
-    rt: &R,
-    job: &Job,
-    workers: u32,
-    bytes: &[u8],
-    items: &[Item],
-    gate: &G,
-) -> Result<Vec<Worked>, AllocError>
-    requires places { AllByRecursion (IsPlaced bytes.now) items.now }
-    requires limit { length bytes.now ≤ 16777216 }
-    requires workers { (1 ≤ workers) × (workers ≤ 64) }
-    ensures { IfOk result (λ all. AreWorked job.now bytes.now items.now all.items) }
-{
-    each(
-        rt,
-        rt.alloc(),
-        workers,
-        items,
-        &ItemWork { job, bytes },
-        gate,
-    )
-}
-
-/// The text and the notes, or why the module is refused.
-fn worked_out<R: AllocGlobal + Threads + Sync, G: Gate>(
+/// The text and the notes, or why the job is refused.
+fn job_out<R: AllocGlobal + Threads + Sync, G: Gate>(
     rt: &R,
     job: &Job,
     workers: u32,
@@ -71,17 +30,25 @@ fn worked_out<R: AllocGlobal + Threads + Sync, G: Gate>(
 ) -> Result<Text, Refused>
     requires limit { length bytes.now ≤ 2 ^ 24 }
     requires workers { (1 ≤ workers) × (workers ≤ 64) }
-    ensures text { IfOk result (λ text. IsModuleText job.now strict bytes.now text.out.items text.notes.items) }
-    ensures sound { OnOk result ((pieces : List Piece) × IsModule strict bytes.now pieces × All (IsSoundPiece job.now) pieces) }
-    ensures refused { IfErr result (λ e. (e ≡ Memory) ⊎ IsRefusal strict bytes.now e) }
+    ensures text { IfOk result (λ text. IsModuleText job.now strict (input_of job.now bytes.now) text.out.items text.notes.items) }
+    ensures sound { OnOk result ((pieces : List Piece) × IsModule strict (input_of job.now bytes.now) pieces × IsSoundFor job.now pieces) }
+    ensures refused { IfErr result (λ e. (e ≡ Memory) ⊎ IsRefusal job.now strict (input_of job.now bytes.now) e) }
 {
-    let alloc = rt.alloc();
-    let items = items_of(alloc, bytes)?;
-    let all = works(rt, job, workers, bytes, &items, gate)?;
-    joined(alloc, job, strict, bytes, all)
+    match job {
+        Job::Opt => {
+            let written = worked_out(rt, Writing::Optimised, workers, strict, bytes, gate)?;
+            Ok(written.text())
+        }
+        Job::Facts => {
+            let written = worked_out(rt, Writing::Reports, workers, strict, bytes, gate)?;
+            Ok(written.text())
+        }
+        Job::Ask(question) => asked_out(rt, question, workers, strict, bytes, gate),
+        Job::SelfRun { seed } => self_out(rt, *seed, workers, strict, gate),
+    }
 }
 
-/// The job's text of a module and the notes on its functions that stay as they are; or why the module is refused.
+/// The job's text of a module and the notes on its functions that stay as they are; or why the job is refused.
 ///
 /// `Job::Opt`: each define that is a function of the profile is optimised and printed; what is printed reads as a function that refines
 /// it. Every other define stays as it is, with a note, and so do all bytes between defines.
@@ -89,9 +56,17 @@ fn worked_out<R: AllocGlobal + Threads + Sync, G: Gate>(
 /// `Job::Facts`: for each define that is a function of the profile the report by its table, each line of which holds whenever a
 /// run comes to its place. Every other define has a note. All else is left out.
 ///
+/// `Job::Ask`: what the table of the function of the question says of the value at the place, which holds whenever a run comes there; or that
+/// none does. The notes are as with the other jobs.
+///
+/// `Job::SelfRun`: how long the text is that is generated from the seed and how long its optimised text, and how many functions stay as
+/// they are. The bytes are not read: all that is said of the input is said of the generated text.
+///
 /// A module is refused, in this order, with `Unclosed` or `BadLine` exactly where it does not split, with
 /// `DuplicateFunction` exactly where two functions of the profile have one name, and with `Strict` exactly where `strict`
-/// holds and a function stays as it is, the first one.
+/// holds and a function stays as it is, the first one. A question about a module is refused, in this order, with `NoFunction` exactly where no
+/// function of the profile has its name; with `NoValue` and `NoBlock` exactly where it has no such value, and no such block or no edge
+/// between the two blocks; and with `NotDefined` exactly where some walk comes to the place without a definition of the value.
 ///
 /// The work on the items of the module is done by 1 to 64 workers, in contiguous pieces, each of which passes the gate first.
 /// The answer is the same for every number of them.
@@ -105,14 +80,15 @@ pub fn module_out<R: AllocGlobal + Threads + Sync, G: Gate>(
 ) -> Result<Text, Refused>
     requires limit { length bytes.now ≤ 2 ^ 24 }
     requires workers { (1 ≤ workers) × (workers ≤ 64) }
-    ensures text { IfOk result (λ text. IsModuleText job.now strict bytes.now text.out.items text.notes.items) }
-    ensures sound { OnOk result ((pieces : List Piece) → IsModule strict bytes.now pieces → All (IsSoundPiece job.now) pieces) }
-    ensures refused { IfErr result (λ e. (e ≡ Memory) ⊎ IsRefusal strict bytes.now e) }
-    ensures answers { (pieces : List Piece) → IsModule strict bytes.now pieces → IfErr result (λ e. e ≡ Memory) }
-    ensures refuses { (reason : Refused) → IsRefusal strict bytes.now reason →
+    ensures text { IfOk result (λ text. IsModuleText job.now strict (input_of job.now bytes.now) text.out.items text.notes.items) }
+    ensures sound { OnOk result ((pieces : List Piece) → IsModule strict (input_of job.now bytes.now) pieces → IsSoundFor job.now pieces) }
+    ensures refused { IfErr result (λ e. (e ≡ Memory) ⊎ IsRefusal job.now strict (input_of job.now bytes.now) e) }
+    ensures answers { (pieces : List Piece) → IsModule strict (input_of job.now bytes.now) pieces → IsAnswerable job.now pieces →
+        IfErr result (λ e. e ≡ Memory) }
+    ensures refuses { (reason : Refused) → IsRefusal job.now strict (input_of job.now bytes.now) reason →
         OnOk result ⊥ × IfErr result (λ e. (e ≡ reason) ⊎ (e ≡ Memory)) }
 {
     one_list_of_pieces();
     one_refusal();
-    worked_out(rt, job, workers, strict, bytes, gate)
+    job_out(rt, job, workers, strict, bytes, gate)
 }

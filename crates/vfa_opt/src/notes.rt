@@ -107,12 +107,27 @@ pub fn push_note(alloc: Global, text: &mut Vec<u8>, function: &Carried) -> Resul
     )
 }
 
-fn push_duplicate(text: &mut Vec<u8>, name: &[u8]) -> Result<(), AllocError>
-    ensures { OnOk result (text.new.items ≡ text.old.items ++ (codes "refused: DuplicateFunction @" ++ (name_text name.now ++ line_feed))) }
+fn push_function(text: &mut Vec<u8>, words: &[u8], name: &[u8]) -> Result<(), AllocError>
+    ensures { OnOk result (text.new.items ≡ text.old.items ++ (words.now ++ (name_text name.now ++ line_feed))) }
 {
-    text.extend_from_slice(b"refused: DuplicateFunction @")?;
+    text.extend_from_slice(words)?;
     push_name(text, name)?;
     text.extend_from_slice(b"\n")
+}
+
+fn push_missing(text: &mut Vec<u8>, words: &[u8], name: &[u8]) -> Result<(), AllocError>
+    ensures { OnOk result (text.new.items ≡ text.old.items ++ (words.now ++ (local_text name.now ++ line_feed))) }
+{
+    push_named(text, words, name)?;
+    text.extend_from_slice(b"\n")
+}
+
+fn push_not_defined(text: &mut Vec<u8>, value: &[u8], block: &[u8]) -> Result<(), AllocError>
+    ensures { OnOk result (text.new.items ≡ text.old.items
+        ++ (codes "refused: NotDefined " ++ (local_text value.now ++ (codes " at " ++ (local_text block.now ++ line_feed))))) }
+{
+    push_named(text, b"refused: NotDefined ", value)?;
+    push_missing(text, b" at ", block)
 }
 
 fn push_strict(
@@ -150,8 +165,16 @@ fn push_refusal(alloc: Global, text: &mut Vec<u8>, refused: &Refused) -> Result<
             b"refused: BadLine at line ",
             u64::from(*line),
         ),
-        Refused::DuplicateFunction(name) => push_duplicate(text, name.bytes()),
+        Refused::DuplicateFunction(name) => push_function(
+            text,
+            b"refused: DuplicateFunction @",
+            name.bytes(),
+        ),
         Refused::Strict(name, reason) => push_strict(alloc, text, name.bytes(), reason),
+        Refused::NoFunction(name) => push_function(text, b"refused: NoFunction @", name.bytes()),
+        Refused::NoValue(name) => push_missing(text, b"refused: NoValue ", name.bytes()),
+        Refused::NoBlock(name) => push_missing(text, b"refused: NoBlock ", name.bytes()),
+        Refused::NotDefined(value, block) => push_not_defined(text, value.bytes(), block.bytes()),
         Refused::Memory => Ok(()),
     }
 }

@@ -22,6 +22,18 @@ pub enum Refused {
     /// The function of this name stays as it is, and none is to.
     #[error("a function is outside the profile")]
     Strict(Name, Outside),
+    /// A question is about a function of this name, and none is accepted.
+    #[error("there is no such function")]
+    NoFunction(Name),
+    /// The function of a question has no value of this name.
+    #[error("the function has no such value")]
+    NoValue(Name),
+    /// The function of a question has no block of this name, or none that leads to the block of the question.
+    #[error("the function has no such block")]
+    NoBlock(Name),
+    /// Some walk comes to the place of a question, which is at this block, without a definition of this value.
+    #[error("the value is not defined on every walk")]
+    NotDefined(Name, Name),
     /// Out of memory.
     #[error("out of memory")]
     Memory,

@@ -12,9 +12,9 @@ ghost use Rattle.vfa_opt.specs.Works.{IsPlaced, IsRange, IsWorkOn, IsWorked};
 
 use crate::acceptance::{accept, inside_is_checked};
 use crate::defines::define_name;
-use crate::jobs::Job;
 use crate::printed::printed;
 use crate::reported::reported;
+use crate::writings::Writing;
 use std::alloc::{AllocError, Global};
 use vfa_check::Checked;
 use vfa_ir::{Name, Outside, Token};
@@ -58,24 +58,25 @@ pub enum Worked {
     },
 }
 
-/// The text that a job writes for an accepted function.
-fn function_text(alloc: Global, job: &Job, f: &Checked) -> Result<Vec<u8>, AllocError>
+/// The text that is written for an accepted function.
+fn function_text(alloc: Global, writing: Writing, f: &Checked) -> Result<Vec<u8>, AllocError>
     requires few { length f.now.values ≤ 2 ^ 26 }
-    ensures text { IfOk result (λ text. IsFunctionText job.now f.now text.items) }
-    ensures sound { IfOk result (λ _. (text : List ℕ) → IsFunctionText job.now f.now text → IsSound job.now f.now text) }
+    ensures text { IfOk result (λ text. IsFunctionText writing f.now text.items) }
+    ensures sound { IfOk result (λ _. (text : List ℕ) → IsFunctionText writing f.now text → IsSound writing f.now text) }
 {
-    match job {
-        Job::Opt => printed(alloc, f),
-        Job::Facts => reported(alloc, f),
+    match writing {
+        Writing::Optimised => printed(alloc, f),
+        Writing::Reports => reported(alloc, f),
+        Writing::Nothing => Ok(Vec::new(alloc)),
     }
 }
 
-/// The text that a job writes for an accepted function, and its name.
-fn function_work(alloc: Global, job: &Job, f: &Checked) -> Result<Worked, AllocError>
+/// The text that is written for an accepted function, and its name.
+fn function_work(alloc: Global, writing: Writing, f: &Checked) -> Result<Worked, AllocError>
     requires few { length f.now.values ≤ 2 ^ 26 }
-    ensures { (input : List ℕ) → IfOk result (IsWorkOn job.now input (accepted f.now)) }
+    ensures { (input : List ℕ) → IfOk result (IsWorkOn writing input (accepted f.now)) }
 {
-    let text = function_text(alloc, job, f)?;
+    let text = function_text(alloc, writing, f)?;
     Ok(Worked::Printed {
         text,
         name: f.function().name.copied(alloc)?,
@@ -136,10 +137,10 @@ fn line_is_within(text: &[u8], all: &[Token], reason: &Outside)
     ensures { line_of reason.now ≤ length text.now + 1 }
 {}
 
-/// The work of a job on a define.
+/// The work on a define.
 fn define_work(
     alloc: Global,
-    job: &Job,
+    writing: Writing,
     bytes: &[u8],
     start: usize,
     end: usize,
@@ -148,13 +149,17 @@ fn define_work(
     requires range { IsRange bytes.now start end }
     requires limit { length bytes.now ≤ 16777216 }
     requires line { line ≤ 16777217 }
-    ensures { IfOk result (IsWorked job.now bytes.now (Define start end line)) }
+    ensures { IfOk result (IsWorked writing bytes.now (Define start end line)) }
 {
     inside_is_checked();
     let text = &bytes[start..end];
     let all = tokens(alloc, text)?;
     match accept(alloc, text, &all) {
-        Ok(f) => function_work(alloc, job, &f),
+        Ok(f) => {
+            // A long define has many tokens, and they are not read again.
+            drop(all);
+            function_work(alloc, writing, &f)
+        }
         Err(reason) => {
             if is_memory(&reason) {
                 return Err(AllocError);
@@ -170,15 +175,20 @@ fn define_work(
     }
 }
 
-/// The work of a job on an item of a module's text: the text for it, the name of an accepted function, and a function that
+/// The work on an item of a module's text: the text for it, the name of an accepted function, and a function that
 /// stays as it is.
-pub fn work(alloc: Global, job: &Job, bytes: &[u8], item: &Item) -> Result<Worked, AllocError>
+pub fn work(
+    alloc: Global,
+    writing: Writing,
+    bytes: &[u8],
+    item: &Item,
+) -> Result<Worked, AllocError>
     requires place { IsPlaced bytes.now item.now }
     requires limit { length bytes.now ≤ 16777216 }
-    ensures { IfOk result (IsWorked job.now bytes.now item.now) }
+    ensures { IfOk result (IsWorked writing bytes.now item.now) }
 {
     match *item {
         Item::Lines { start, end } => Ok(Worked::Copied { start, end }),
-        Item::Define { start, end, line } => define_work(alloc, job, bytes, start, end, line),
+        Item::Define { start, end, line } => define_work(alloc, writing, bytes, start, end, line),
     }
 }

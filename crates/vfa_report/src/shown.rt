@@ -1,6 +1,6 @@
 //! The names that the values and the blocks of a function are shown by.
 
-ghost use Rattle.std.specs.Prelude.{◌≡◌, ◌<◌, ◌-◌, ◌^◌, [], None, Some, MatchOption, IfOk};
+ghost use Rattle.std.specs.Prelude.{◌≡◌, ◌<◌, ◌-◌, ◌^◌, [], None, Some, MatchOption, IfOk, bytes_eq, position};
 ghost use Rattle.vfa_ir.specs.declared.numbering.Local.{Local as LocalOf};
 ghost use Rattle.vfa_ir.specs.Printable.{IsPrintable};
 ghost use Rattle.vfa_ir.specs.Resolution.{Scope};
@@ -64,6 +64,27 @@ impl ShownNames {
             None => &[],
         }
     }
+
+    /// The place of the first value of a name.
+    pub fn value_named(&self, name: &[u8]) -> Option<usize>
+        ensures { result ≡ position (bytes_eq name.now) self.now.values }
+    {
+        place_of(&self.values, name)
+    }
+
+    /// The place of the first block of a name.
+    pub fn block_named(&self, name: &[u8]) -> Option<usize>
+        ensures { result ≡ position (bytes_eq name.now) self.now.blocks }
+    {
+        place_of(&self.blocks, name)
+    }
+}
+
+/// The first place of a name.
+fn place_of(names: &[Name], name: &[u8]) -> Option<usize>
+    ensures { result ≡ position (bytes_eq name.now) names.now }
+{
+    names.iter().position(|other| name == other.bytes())
 }
 
 fn value_name(f: &Function, v: usize) -> Option<&Name>

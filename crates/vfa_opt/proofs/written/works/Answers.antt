@@ -1,6 +1,6 @@
 use Rattle.std.proofs.lemmas.List.Elements.{All-from_recursion}
 use Rattle.vfa_opt.proofs.WorkLists.{may_run}
-use Rattle.vfa_opt.proofs.modules.works.Goals as goal
+use Rattle.vfa_opt.proofs.written.works.Goals as goal
 
 pub each-requires-clause-inputs : goal.each-requires-clause-inputs
 each-requires-clause-inputs g c = λ lifetimes lives.
