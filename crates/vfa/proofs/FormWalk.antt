@@ -1,17 +1,18 @@
 -- The walk of the form over a command's words, a word at a time.
-use Rattle.std.proofs.Common.{◌≡◌, ◌∙◌, ◌&&◌, ◌==◌, ◌∷◌, [], List, ℕ, Bool, true, false, Option, Some, None, if◌then◌else◌, codes, refl, sym, ap, subst}
-use Rattle.std.specs.Prelude.{slice_get}
+use Rattle.std.proofs.Common.{◌≡◌, ◌∙◌, ◌&&◌, ◌==◌, ◌∷◌, [], List, ℕ, Bool, true, false, Option, Some, None, if◌then◌else◌, nat_lt, length, drop, encode_utf8, codes, refl, sym, ap, ap₂, subst}
+use Rattle.std.specs.Prelude.{slice_get, suc}
+use Rattle.std.specs.Option.{option_map_or}
 use Rattle.std.specs.Str.{IsUtf8, bytes_eq, chars, encode_utf8_all as encodes}
 use Rattle.std.proofs.lemmas.Bool.{eqb-true}
 use Rattle.std.proofs.lemmas.Str.{encodes-chars}
 use lib.Utf8.{encode}
-use Rattle.clap.specs.Faults.{flags_fault, positional_fault, settle_fault, turn_fault, use_fault}
+use Rattle.clap.specs.Faults.{bundle_fault, bundle_step_fault, flags_fault, long_fault, short_fault, positional_fault, settle_fault, step_fault, turn_fault, use_fault}
 use Rattle.clap.specs.Kinds.{Kinds, or_else}
 use Rattle.clap.specs.Lexer.{long_of, short_of, name_and_value}
-use Rattle.clap.specs.Walk.{Held, Row, Text, Waiting, Walk, idle, is_pending, option, positional, positional_held, pushed, settled_rows, subcommand_met, used, walked}
+use Rattle.clap.specs.Walk.{Held, Row, Rule, Text, Waiting, Walk, idle, after_flag, after_step, arg_by_id, arg_by_long, is_pending, long_met, option, option_word, positional, positional_held, pushed, settled_rows, short_or_plain, subcommand_met, used, used_by_id, walked}
 use Rattle.clap.specs.declared.error.kind.ErrorKind.TheVariants as kind
-use Rattle.vfa.specs.Command.{is_option}
-use Rattle.vfa.proofs.FormRows.{job, rules, shape, strict, workers}
+use Rattle.vfa.specs.Command.{is_among, is_option}
+use Rattle.vfa.proofs.FormRows.{id_valued, hyphened, job, long_strict, long_unknown, long_valued, names, no_second, no_short, rules, same_text, shape, strict, valued}
 
 -- ---- faults
 
@@ -100,8 +101,19 @@ settles rows pending = settle_fault rules false (held rows pending)
 abbrev pub settled : List Row → Option (Text × List Text) → List Row
 settled rows pending = settled_rows rules pending rows
 
-abbrev pub awaits : Option (Text × List Text)
-awaits = Some (codes "workers", [])
+-- an option that has a value, with the values that it has so far
+abbrev pub pends : Text → List Text → Option (Text × List Text)
+pends name values = Some (name, values)
+
+module _ (name : Text) (m : is_among names name ≡ true) (rows : List Row) (texts : List Text) where
+  abbrev fault_by : Option Rule → Kinds
+  fault_by a = option_map_or (λ a. use_fault false a texts rows) a []
+
+  pub settles_valued : settles rows (pends name texts) ≡ use_fault false (valued name) texts rows
+  settles_valued = ap fault_by (id_valued name m)
+
+  pub settled_valued : settled rows (pends name texts) ≡ used (valued name) texts rows
+  settled_valued = ap (λ a. used_by_id a texts rows) (id_valued name m)
 
 -- ---- a word that is no option
 
@@ -129,6 +141,10 @@ module _ (word : Text) (rows : List Row) (pending : Option (Text × List Text)) 
   abbrev with_held : Bool → Held → Walk
   with_held behind h = record { held = h; waiting = idle; position = 2; is_trailing = behind; stopped = None }
 
+  -- there is no other one
+  abbrev stray : Option Rule → Kinds
+  stray a = option_map_or (λ a. positional_fault rules false a (held rows pending)) a (kind.UnknownArgument ∷ [])
+
   pub behind_first : (waiting : Waiting) → turn (at rows pending waiting 1 true) word ≡ settles rows pending
   behind_first waiting = job_settles rows pending
 
@@ -137,7 +153,7 @@ module _ (word : Text) (rows : List Row) (pending : Option (Text × List Text)) 
   behind_goes waiting = ap (with_held true) (job_held word rows pending)
 
   pub behind_second : (waiting : Waiting) → turn (at rows pending waiting 2 true) word ≡ kind.UnknownArgument ∷ []
-  behind_second waiting = refl
+  behind_second waiting = ap stray no_second
 
   module _ (a : bytes_eq word (codes "--") ≡ false) (l : long_of word ≡ None) (s : short_of word ≡ None) where
     pub plain_first : turn (at rows pending idle 1 false) word ≡ settles rows pending
@@ -148,15 +164,28 @@ module _ (word : Text) (rows : List Row) (pending : Option (Text × List Text)) 
     plain_goes = rw (a, l, s) (ap (with_held false) (job_held word rows pending))
 
     pub plain_second : turn (at rows pending idle 2 false) word ≡ kind.UnknownArgument ∷ []
-    plain_second = rw (a, l, s) refl
+    plain_second = rw (a, l, s) (ap stray no_second)
 
-    -- behind `--workers` it is the value
-    pub value_turn : (n : ℕ) → turn (at rows awaits (option (codes "workers")) n false) word ≡ []
-    value_turn n = rw (a, l, s) refl
+    -- behind an option that has a value it is the value
+    module _ (name : Text) (n : ℕ) where
+      abbrev waits : Walk
+      waits = at rows (pends name []) (option name) n false
 
-    pub value_goes : (n : ℕ) → next (at rows awaits (option (codes "workers")) n false) word ≡ at rows (Some (codes "workers", word ∷ [])) idle n false
-    unfolding walked
-    value_goes n = rw (a, l, s) refl
+      pub value_turn : turn waits word ≡ []
+      value_turn = rw (a, l, s) refl
+
+      abbrev value_held : Option Rule → Walk
+      value_held r = let met = option_word r name word (held rows (pends name [])) in record waits { held = met.0; waiting = met.1 }
+
+      value_by : next waits word ≡ value_held (arg_by_id rules name)
+      unfolding walked
+      value_by = rw (a, l, s) refl
+
+      abbrev then_waiting : Bool → Waiting
+      then_waiting same = if nat_lt (if same then 1 else 0) 1 then option name else idle
+
+      pub value_goes : is_among names name ≡ true → next waits word ≡ at rows (pends name (word ∷ [])) idle n false
+      value_goes m = value_by ∙ ap value_held (id_valued name m) ∙ ap (λ same. at rows (pends name (word ∷ [])) (then_waiting same) n false) (same_text name)
 
 -- ---- a word that is an option, whatever stands before it
 
@@ -165,6 +194,14 @@ unnamed : (waiting : Waiting) (word : Text) → subcommand_met [] waiting word �
 unnamed idle word = refl
 unnamed (option id) word = refl
 unnamed positional word = refl
+
+-- no character is a flag
+no_flag : (b c : ℕ) (rest : Text) (h : Held) → slice_get (chars (b ∷ rest)) 0 ≡ Some c → flags_fault rules false (suc (length rest)) (b ∷ rest) 0 h ≡ kind.UnknownArgument ∷ []
+unfolding flags_fault
+no_flag b c rest h first =
+    let left = drop (length (encode_utf8 c)) (b ∷ rest) in
+    ap (λ o. bundle_step_fault rules false o (b ∷ rest) 0 h (flags_fault rules false (length rest))) first
+    ∙ ap (λ a. short_fault rules false a left h (flags_fault rules false (length rest) left 0)) (no_short c)
 
 module _ (rows : List Row) (pending : Option (Text × List Text)) (waiting : Waiting) (n : ℕ) where
   abbrev pub here : Walk
@@ -177,16 +214,24 @@ module _ (rows : List Row) (pending : Option (Text × List Text)) (waiting : Wai
   unfolding walked
   ends_goes = rw (unnamed waiting (codes "--")) refl
 
-  pub short_turn : (x : ℕ) (xs : Text) → (x == 45) ≡ false → IsUtf8 (45 ∷ x ∷ xs) → turn here (45 ∷ x ∷ xs) ≡ kind.UnknownArgument ∷ []
-  unfolding flags_fault
-  short_turn x xs other utf8 =
-      let first = first_char x xs utf8 in
-      let char : slice_get (chars (x ∷ xs)) 0 ≡ Some first.0 = first.1 in
-      rw (unnamed waiting (45 ∷ x ∷ xs), other, other, char) refl
+  module _ (x : ℕ) (xs : Text) (other : (x == 45) ≡ false) where
+    after_short : Kinds
+    after_short =
+        let met = short_or_plain rules waiting (45 ∷ x ∷ xs) (Some (x ∷ xs)) (held rows pending) in
+        step_fault shape n met.0 met.1
+
+    by_flags : turn here (45 ∷ x ∷ xs) ≡ or_else (bundle_fault rules false (x ∷ xs) (held rows pending)) after_short
+    unfolding after_short
+    by_flags = rw (unnamed waiting (45 ∷ x ∷ xs), other, other) refl
+
+    pub short_turn : IsUtf8 (45 ∷ x ∷ xs) → turn here (45 ∷ x ∷ xs) ≡ kind.UnknownArgument ∷ []
+    short_turn utf8 =
+        let first = first_char x xs utf8 in
+        by_flags ∙ ap (λ k. or_else k after_short) (no_flag x first.0 xs (held rows pending) first.1)
 
   module _ (x : ℕ) (xs : Text) where
     abbrev word : Text
-    word = 45 ∷ 45 ∷ x ∷ xs
+    word = hyphened (x ∷ xs)
 
     abbrev pub name : Text
     name = (name_and_value (x ∷ xs)).0
@@ -194,35 +239,51 @@ module _ (rows : List Row) (pending : Option (Text × List Text)) (waiting : Wai
     abbrev pub value : Option Text
     value = (name_and_value (x ∷ xs)).1
 
+    -- by the argument that has the name, and the value
+    abbrev turn_by : Option Rule → Option Text → Kinds
+    turn_by a v =
+        let met = long_met rules a v (held rows pending) in
+        let step = after_flag rules waiting word met.0 met.1 in
+        or_else (long_fault rules false a v (held rows pending)) (step_fault shape n step.0 step.1)
+
+    abbrev goes_by : Option Rule → Option Text → Walk
+    goes_by a v =
+        let met = long_met rules a v (held rows pending) in
+        let step = after_flag rules waiting word met.0 met.1 in
+        after_step rules word here step.0 step.1
+
+    turns : turn here word ≡ turn_by (arg_by_long rules name) value
+    turns = rw (unnamed waiting word) refl
+
+    goes : next here word ≡ goes_by (arg_by_long rules name) value
+    unfolding walked
+    goes = rw (unnamed waiting word) refl
+
     module _ (s : bytes_eq (codes "strict") name ≡ true) where
       module _ (none : value ≡ None) where
         pub strict_turn : turn here word ≡ or_else (or_else (settles rows pending) (use_fault false strict [] (settled rows pending))) []
-        strict_turn = rw (unnamed waiting word, s, none) refl
+        strict_turn = turns ∙ ap₂ turn_by (long_strict name s) none
 
         pub strict_goes : next here word ≡ at (used strict [] (settled rows pending)) None idle n false
-        unfolding walked
-        strict_goes = rw (unnamed waiting word, s, none) refl
+        strict_goes = goes ∙ ap₂ goes_by (long_strict name s) none
 
       pub strict_valued : (v : Text) → value ≡ Some v → turn here word ≡ kind.TooManyValues ∷ []
-      strict_valued v some = rw (unnamed waiting word, s, some) refl
+      strict_valued v some = turns ∙ ap₂ turn_by (long_strict name s) some
 
-    module _ (s : bytes_eq (codes "strict") name ≡ false) where
-      pub unknown_turn : bytes_eq (codes "workers") name ≡ false → turn here word ≡ kind.UnknownArgument ∷ []
-      unknown_turn w = rw (unnamed waiting word, s, w) refl
+    pub unknown_turn : bytes_eq (codes "strict") name ≡ false → is_among names name ≡ false → turn here word ≡ kind.UnknownArgument ∷ []
+    unknown_turn s m = turns ∙ ap (λ a. turn_by a value) (long_unknown name s m)
 
-      module _ (w : bytes_eq (codes "workers") name ≡ true) where
-        module _ (none : value ≡ None) where
-          pub workers_turn : turn here word ≡ or_else (settles rows pending) []
-          workers_turn = rw (unnamed waiting word, s, w, none) refl
+    module _ (m : is_among names name ≡ true) where
+      module _ (none : value ≡ None) where
+        pub valueless_turn : turn here word ≡ or_else (settles rows pending) []
+        valueless_turn = turns ∙ ap₂ turn_by (long_valued name m) none
 
-          pub workers_goes : next here word ≡ at (settled rows pending) awaits (option (codes "workers")) n false
-          unfolding walked
-          workers_goes = rw (unnamed waiting word, s, w, none) refl
+        pub valueless_goes : next here word ≡ at (settled rows pending) (pends name []) (option name) n false
+        valueless_goes = goes ∙ ap₂ goes_by (long_valued name m) none
 
-        module _ (v : Text) (some : value ≡ Some v) where
-          pub number_turn : turn here word ≡ or_else (or_else (settles rows pending) (use_fault false workers (v ∷ []) (settled rows pending))) []
-          number_turn = rw (unnamed waiting word, s, w, some) refl
+      module _ (v : Text) (some : value ≡ Some v) where
+        pub valued_turn : turn here word ≡ or_else (or_else (settles rows pending) (use_fault false (valued name) (v ∷ []) (settled rows pending))) []
+        valued_turn = turns ∙ ap₂ turn_by (long_valued name m) some
 
-          pub number_goes : next here word ≡ at (used workers (v ∷ []) (settled rows pending)) None idle n false
-          unfolding walked
-          number_goes = rw (unnamed waiting word, s, w, some) refl
+        pub valued_goes : next here word ≡ at (used (valued name) (v ∷ []) (settled rows pending)) None idle n false
+        valued_goes = goes ∙ ap₂ goes_by (long_valued name m) some

@@ -1,27 +1,42 @@
 -- What one more word adds to the options and the other words of a command.
-use Rattle.std.proofs.Common.{◌≡◌, ◌∙◌, ◌+◌, ◌==◌, ◌&&◌, ◌||◌, ◌∷◌, [], List, ℕ, Bool, true, false, not, Option, Some, None, if◌then◌else◌, nat_lt, codes, refl, sym, ap, length, take, drop, arith}
+use Rattle.std.proofs.Common.{◌≡◌, ◌∙◌, ◌+◌, ◌==◌, ◌&&◌, ◌||◌, ◌∷◌, [], List, ℕ, Bool, true, false, not, Option, Some, None, if◌then◌else◌, nat_lt, codes, refl, sym, ap, ap₂, length, take, drop, slice_get, arith}
 use Rattle.std.specs.List.{position_or_len, before_first, after_first}
 use Rattle.std.specs.Prelude.{suc}
 use Rattle.std.specs.Str.{bytes_eq}
-use Rattle.std.proofs.lemmas.Slice.Eq.{bytes_eq-Decides}
 use Rattle.std.proofs.lemmas.Bool.{lt-ltb}
 use Rattle.clap.specs.Lexer.{has_byte, name_and_value}
-use Rattle.vfa.specs.Command.{Written, written, is_equals, has_equals, is_option, ends_options, are_option_and_value, options, positional, is_known, strict_name, workers_name}
+use Rattle.vfa.specs.Command.{Written, written, is_equals, has_equals, is_option, ends_options, are_option_and_value, options, positional, is_among, is_known, strict_name, valued_names}
+use Rattle.vfa.proofs.FormRows.{hyphened, names, of_member, option_of, unequal_by}
 
--- ---- texts
+-- ---- names
 
-pub equal : (a b : List ℕ) → bytes_eq a b ≡ true → a ≡ b
-equal a b e = (bytes_eq-Decides a b).0 e
+-- the names with the hyphens and without
+pub valued_long : (name : List ℕ) → is_among valued_names (hyphened name) ≡ is_among names name
+unfolding names
+valued_long name = refl
 
-unequal_by : (b : Bool) (P : Type 0) → (b ≡ true → P) → (P → ⊥) → b ≡ false
-unequal_by true P holds fails = absurd (fails (holds refl))
-unequal_by false P holds fails = refl
+pub known_option : (name : List ℕ) (value : Option (List ℕ)) → is_known (option_of name value) ≡ (bytes_eq (codes "strict") name || is_among names name)
+known_option name value = ap (λ b. bytes_eq (codes "strict") name || b) (valued_long name)
 
-unequal : (a b : List ℕ) → (a ≡ b → ⊥) → bytes_eq a b ≡ false
-unequal a b not_so = unequal_by (bytes_eq a b) (a ≡ b) (equal a b) not_so
+no_equals_within : (name : List ℕ) → is_among names name ≡ true → has_byte 61 name ≡ false
+unfolding names
+no_equals_within name m = of_member (λ n. has_byte 61 n ≡ false) names (refl, (refl, (refl, (refl, (refl, (refl, tt)))))) name m
 
-not_both : (a b : List ℕ) → bytes_eq a b ≡ false → a ≡ b → ⊥
-not_both a b e same = let equals : bytes_eq a b ≡ true = (bytes_eq-Decides a b).1 same in cc
+-- a name begins with two hyphens, and does not end there
+name_option : (word : List ℕ) → is_among valued_names word ≡ true → is_option word ≡ true
+name_option word m = of_member (λ n. is_option n ≡ true) valued_names (refl, (refl, (refl, (refl, (refl, (refl, tt)))))) word m
+
+name_ends : (word : List ℕ) → is_among valued_names word ≡ true → ends_options word ≡ false
+name_ends word m = of_member (λ n. ends_options n ≡ false) valued_names (refl, (refl, (refl, (refl, (refl, (refl, tt)))))) word m
+
+second_byte : (word : List ℕ) → is_among (strict_name ∷ valued_names) word ≡ true → slice_get word 1 ≡ Some 45
+second_byte word m = of_member (λ n. slice_get n 1 ≡ Some 45) (strict_name ∷ valued_names) (refl, (refl, (refl, (refl, (refl, (refl, (refl, tt))))))) word m
+
+not_among : (ns : List (List ℕ)) (word : List ℕ) → (is_among ns word ≡ true → ⊥) → is_among ns word ≡ false
+not_among ns word not_so = unequal_by (is_among ns word) ⊥ not_so (λ e. e)
+
+plain_name : (word : List ℕ) → is_option word ≡ false → is_among valued_names word ≡ false
+plain_name word not_so = not_among valued_names word (λ m. let so : is_option word ≡ true = name_option word m in cc)
 
 -- ---- the options and the other words, a word at a time
 
@@ -47,50 +62,47 @@ neither true z a c d e g = cc
 neither false true a c d e g = cc
 neither false false a c d e g = refl
 
-no_pair : (word after : List ℕ) → bytes_eq word workers_name ≡ false → are_option_and_value word after ≡ false
+pair : {A : Type 0} (x y z : Bool) (a b c d : A) → x ≡ false → y ≡ true → (if x then a else (if y then b else (if z then c else d))) ≡ b
+pair true y z a b c d e f = cc
+pair false true z a b c d e f = refl
+pair false false z a b c d e f = cc
+
+no_pair : (word after : List ℕ) → is_among valued_names word ≡ false → are_option_and_value word after ≡ false
 no_pair word after e = ap (λ b. b && not (is_option after)) e
 
-module _ (word : List ℕ) (left : List (List ℕ)) (ends : ends_options word ≡ false) where
-  -- a word that is no option is not `--workers`
-  plain_name : is_option word ≡ false → bytes_eq word workers_name ≡ false
-  plain_name not_so = unequal word workers_name (λ same. let so : is_option word ≡ true = ap is_option same in cc)
+is_pair : (name after : List ℕ) → is_among names name ≡ true → is_option after ≡ false → are_option_and_value (hyphened name) after ≡ true
+is_pair name after m not_so = ap₂ (λ b o. b && not o) (valued_long name ∙ m) not_so
+
+and_false : (b : Bool) → (b && false) ≡ false
+and_false true = refl
+and_false false = refl
+
+no_value : (word after : List ℕ) → is_option after ≡ true → are_option_and_value word after ≡ false
+no_value word after so = ap (λ o. is_among valued_names word && not o) so ∙ and_false (is_among valued_names word)
 
 -- a word that is no option
 pub plain_options : (word : List ℕ) (left : List (List ℕ)) → ends_options word ≡ false → is_option word ≡ false → options (word ∷ left) ≡ options left
 plain_options word [] ends not_so = neither (ends_options word) (is_option word) [] (written word ∷ []) [] ends not_so
 plain_options word (after ∷ left) ends not_so =
-    last (ends_options word) (are_option_and_value word after) (is_option word) _ _ _ _ ends (no_pair word after (plain_name word [] ends not_so)) not_so
+    last (ends_options word) (are_option_and_value word after) (is_option word) _ _ _ _ ends (no_pair word after (plain_name word not_so)) not_so
 
 pub plain_positional : (word : List ℕ) (left : List (List ℕ)) → ends_options word ≡ false → is_option word ≡ false → positional (word ∷ left) ≡ word ∷ positional left
 plain_positional word [] ends not_so = neither (ends_options word) (is_option word) [] [] (word ∷ []) ends not_so
 plain_positional word (after ∷ left) ends not_so =
-    last (ends_options word) (are_option_and_value word after) (is_option word) _ _ _ _ ends (no_pair word after (plain_name word [] ends not_so)) not_so
+    last (ends_options word) (are_option_and_value word after) (is_option word) _ _ _ _ ends (no_pair word after (plain_name word not_so)) not_so
 
--- an option that is not `--workers` alone
-pub option_options : (word : List ℕ) (left : List (List ℕ)) → ends_options word ≡ false → bytes_eq word workers_name ≡ false → is_option word ≡ true →
+-- an option whose value is not the next word
+pub option_options : (word : List ℕ) (left : List (List ℕ)) → ends_options word ≡ false → is_among valued_names word ≡ false → is_option word ≡ true →
     options (word ∷ left) ≡ written word ∷ options left
-option_options word [] ends workers so = second (ends_options word) (is_option word) [] (written word ∷ []) [] ends so
-option_options word (after ∷ left) ends workers so =
-    third (ends_options word) (are_option_and_value word after) (is_option word) _ _ _ _ ends (no_pair word after workers) so
+option_options word [] ends no_value so = second (ends_options word) (is_option word) [] (written word ∷ []) [] ends so
+option_options word (after ∷ left) ends no_value so =
+    third (ends_options word) (are_option_and_value word after) (is_option word) _ _ _ _ ends (no_pair word after no_value) so
 
-pub option_positional : (word : List ℕ) (left : List (List ℕ)) → ends_options word ≡ false → bytes_eq word workers_name ≡ false → is_option word ≡ true →
+pub option_positional : (word : List ℕ) (left : List (List ℕ)) → ends_options word ≡ false → is_among valued_names word ≡ false → is_option word ≡ true →
     positional (word ∷ left) ≡ positional left
-option_positional word [] ends workers so = second (ends_options word) (is_option word) [] [] (word ∷ []) ends so
-option_positional word (after ∷ left) ends workers so =
-    third (ends_options word) (are_option_and_value word after) (is_option word) _ _ _ _ ends (no_pair word after workers) so
-
--- `--workers` and its value
-abbrev pub option_of : List ℕ → Option (List ℕ) → Written
-option_of name value = record { name = name; value = value }
-
-pub value_options : (value : List ℕ) (left : List (List ℕ)) → is_option value ≡ false → options (workers_name ∷ value ∷ left) ≡ option_of workers_name (Some value) ∷ options left
-value_options value left not_so = ap (λ b. if not b then option_of workers_name (Some value) ∷ options left else written workers_name ∷ options (value ∷ left)) not_so
-
-pub value_positional : (value : List ℕ) (left : List (List ℕ)) → is_option value ≡ false → positional (workers_name ∷ value ∷ left) ≡ positional left
-value_positional value left not_so = ap (λ b. if not b then positional left else positional (value ∷ left)) not_so
-
-pub no_value_options : (word : List ℕ) (left : List (List ℕ)) → is_option word ≡ true → options (workers_name ∷ word ∷ left) ≡ option_of workers_name None ∷ options (word ∷ left)
-no_value_options word left so = ap (λ b. if not b then option_of workers_name (Some word) ∷ options left else written workers_name ∷ options (word ∷ left)) so
+option_positional word [] ends no_value so = second (ends_options word) (is_option word) [] [] (word ∷ []) ends so
+option_positional word (after ∷ left) ends no_value so =
+    third (ends_options word) (are_option_and_value word after) (is_option word) _ _ _ _ ends (no_pair word after no_value) so
 
 pub ended_options : (left : List (List ℕ)) → options (codes "--" ∷ left) ≡ []
 ended_options [] = refl
@@ -137,65 +149,108 @@ no_equals (b ∷ text) e = go (b == 61) refl e (no_equals text)
     go true e f rest = cc
     go false e f rest = further_before b text e ∙ ap (λ r. b ∷ r) (rest f)
 
+abbrev with_value : List ℕ → Option (List ℕ) → Written
+with_value n v = record { name = n; value = v }
+
 written_as : (word n a : List ℕ) (h : Bool) → before_first is_equals word ≡ n → after_first is_equals word ≡ a → has_equals word ≡ h →
-    written word ≡ option_of n (if h then Some a else None)
+    written word ≡ with_value n (if h then Some a else None)
 written_as word n a h named behind has =
-    ap (λ m. option_of m (if has_equals word then Some (after_first is_equals word) else None)) named
-    ∙ ap (λ b. option_of n (if has_equals word then Some b else None)) behind
-    ∙ ap (λ g. option_of n (if g then Some a else None)) has
+    ap (λ m. with_value m (if has_equals word then Some (after_first is_equals word) else None)) named
+    ∙ ap (λ b. with_value n (if has_equals word then Some b else None)) behind
+    ∙ ap (λ g. with_value n (if g then Some a else None)) has
+
+-- an option that has a value, with a next word that is it, with one that is an option, and with none
+module _ (name : List ℕ) (m : is_among names name ≡ true) where
+  name_goes_on : ends_options (hyphened name) ≡ false
+  name_goes_on = name_ends (hyphened name) (valued_long name ∙ m)
+
+  alone_written : written (hyphened name) ≡ option_of name None
+  alone_written =
+      let none = no_equals_within name m in
+      written_as (hyphened name) (hyphened name) (after_first is_equals (hyphened name)) false
+      (further_before 45 (45 ∷ name) refl ∙ ap (λ r. 45 ∷ r) (further_before 45 name refl ∙ ap (λ r. 45 ∷ r) (no_equals name none)))
+      refl
+      (further_has 45 (45 ∷ name) refl ∙ further_has 45 name refl ∙ equals_found name ∙ none)
+
+  pub value_options : (value : List ℕ) (left : List (List ℕ)) → is_option value ≡ false → options (hyphened name ∷ value ∷ left) ≡ option_of name (Some value) ∷ options left
+  value_options value left not_so =
+      pair (ends_options (hyphened name)) (are_option_and_value (hyphened name) value) true
+      [] (option_of name (Some value) ∷ options left) (written (hyphened name) ∷ options (value ∷ left)) (options (value ∷ left))
+      name_goes_on (is_pair name value m not_so)
+
+  pub value_positional : (value : List ℕ) (left : List (List ℕ)) → is_option value ≡ false → positional (hyphened name ∷ value ∷ left) ≡ positional left
+  value_positional value left not_so =
+      pair (ends_options (hyphened name)) (are_option_and_value (hyphened name) value) true
+      (value ∷ left) (positional left) (positional (value ∷ left)) (hyphened name ∷ positional (value ∷ left))
+      name_goes_on (is_pair name value m not_so)
+
+  pub no_value_options : (word : List ℕ) (left : List (List ℕ)) → is_option word ≡ true → options (hyphened name ∷ word ∷ left) ≡ option_of name None ∷ options (word ∷ left)
+  no_value_options word left so =
+      third (ends_options (hyphened name)) (are_option_and_value (hyphened name) word) true
+      [] (option_of name (Some word) ∷ options left) (written (hyphened name) ∷ options (word ∷ left)) (options (word ∷ left))
+      name_goes_on (no_value (hyphened name) word so) refl
+      ∙ ap (λ o. o ∷ options (word ∷ left)) alone_written
+
+  pub last_options : options (hyphened name ∷ []) ≡ option_of name None ∷ []
+  last_options = second (ends_options (hyphened name)) true [] (written (hyphened name) ∷ []) [] name_goes_on refl ∙ ap (λ o. o ∷ []) alone_written
 
 module _ (x : ℕ) (xs : List ℕ) where
-  abbrev pub long : List ℕ
-  long = 45 ∷ 45 ∷ x ∷ xs
-
   abbrev pub name : List ℕ
   name = (name_and_value (x ∷ xs)).0
 
   abbrev pub value : Option (List ℕ)
   value = (name_and_value (x ∷ xs)).1
 
-  pub long_written : written long ≡ option_of (45 ∷ 45 ∷ name) value
+  pub long_written : written (hyphened (x ∷ xs)) ≡ option_of name value
   long_written =
-      written_as long (45 ∷ 45 ∷ name) (after_first is_equals (x ∷ xs)) (has_byte 61 (x ∷ xs))
+      written_as (hyphened (x ∷ xs)) (hyphened name) (after_first is_equals (x ∷ xs)) (has_byte 61 (x ∷ xs))
       (further_before 45 (45 ∷ x ∷ xs) refl ∙ ap (λ r. 45 ∷ r) (further_before 45 (x ∷ xs) refl))
       (further_after 45 (45 ∷ x ∷ xs) refl ∙ further_after 45 (x ∷ xs) refl)
       (further_has 45 (45 ∷ x ∷ xs) refl ∙ further_has 45 (x ∷ xs) refl ∙ equals_found (x ∷ xs))
 
-  -- `--workers` alone
-  pub is_workers : name ≡ codes "workers" → value ≡ None → long ≡ workers_name
-  is_workers named none = go (has_byte 61 (x ∷ xs)) refl none
+  abbrev value_by : Bool → Option (List ℕ)
+  value_by has = if has then Some (after_first is_equals (x ∷ xs)) else None
+
+  -- the name alone
+  pub is_alone : value ≡ None → x ∷ xs ≡ name
+  is_alone none = go (has_byte 61 (x ∷ xs)) refl none
     where
-      go : (t : Bool) → has_byte 61 (x ∷ xs) ≡ t → (if t then Some (after_first is_equals (x ∷ xs)) else None) ≡ None → long ≡ workers_name
+      go : (t : Bool) → has_byte 61 (x ∷ xs) ≡ t → value_by t ≡ None → x ∷ xs ≡ name
       go true e f = cc
-      go false e f = ap (λ r. 45 ∷ 45 ∷ r) (sym (no_equals (x ∷ xs) e) ∙ named)
+      go false e f = sym (no_equals (x ∷ xs) e)
 
-  pub not_workers : (name ≡ codes "workers" → value ≡ None → ⊥) → bytes_eq long workers_name ≡ false
-  not_workers other = unequal long workers_name (λ same.
-      let rest : x ∷ xs ≡ codes "workers" = cc in
-      other (ap (λ t. (name_and_value t).0) rest) (ap (λ t. (name_and_value t).1) rest))
+  -- a name with its value, or another name
+  pub not_alone : (is_among names name ≡ true → value ≡ None → ⊥) → is_among valued_names (hyphened (x ∷ xs)) ≡ false
+  not_alone other = not_among valued_names (hyphened (x ∷ xs)) (λ m.
+      let within : is_among names (x ∷ xs) ≡ true = sym (valued_long (x ∷ xs)) ∙ m in
+      let none : has_byte 61 (x ∷ xs) ≡ false = no_equals_within (x ∷ xs) within in
+      other (ap (is_among names) (no_equals (x ∷ xs) none) ∙ within) (ap value_by none))
 
-  pub unknown_long : bytes_eq (codes "strict") name ≡ false → bytes_eq (codes "workers") name ≡ false → is_known (option_of (45 ∷ 45 ∷ name) value) ≡ false
-  unknown_long s w = neither_name (bytes_eq name (codes "strict")) (bytes_eq name (codes "workers"))
-      (unequal name (codes "strict") (λ same. not_both (codes "strict") name s (sym same)))
-      (unequal name (codes "workers") (λ same. not_both (codes "workers") name w (sym same)))
-    where
-      neither_name : (a b : Bool) → a ≡ false → b ≡ false → (a || b) ≡ false
-      neither_name a b e f = rw (e, f) refl
+  pub unknown_long : bytes_eq (codes "strict") name ≡ false → is_among names name ≡ false → is_known (option_of name value) ≡ false
+  unknown_long s m = known_option name value ∙ ap₂ (λ a b. a || b) s m
 
 -- an option with one hyphen
 module _ (x : ℕ) (xs : List ℕ) (other : (x == 45) ≡ false) where
   pub short_ends : ends_options (45 ∷ x ∷ xs) ≡ false
   short_ends = rw other refl
 
-  pub short_name : bytes_eq (45 ∷ x ∷ xs) workers_name ≡ false
-  short_name = rw other refl
+  -- a text that goes on with another byte than a hyphen, or does not go on
+  not_hyphen : (rest : List ℕ) → (slice_get rest 0 ≡ Some 45 → ⊥) → is_among (strict_name ∷ valued_names) (45 ∷ rest) ≡ false
+  not_hyphen rest unlike = not_among (strict_name ∷ valued_names) (45 ∷ rest) (λ m. unlike (second_byte (45 ∷ rest) m))
 
-  abbrev named : List ℕ → Bool
-  named n = bytes_eq n strict_name || bytes_eq n workers_name
+  other_byte : Some x ≡ Some 45 → ⊥
+  other_byte e = let same : x ≡ 45 = cc in let is : (x == 45) ≡ true = ap (λ b. b == 45) same in cc
+
+  pub short_name : is_among valued_names (45 ∷ x ∷ xs) ≡ false
+  short_name = second_of_or (bytes_eq strict_name (45 ∷ x ∷ xs)) _ (not_hyphen (x ∷ xs) other_byte)
+    where
+      second_of_or : (a b : Bool) → (a || b) ≡ false → b ≡ false
+      second_of_or true b e = cc
+      second_of_or false b e = e
 
   pub unknown_short : is_known (written (45 ∷ x ∷ xs)) ≡ false
-  unknown_short = ap named (further_before 45 (x ∷ xs) refl) ∙ go (x == 61) refl
+  unknown_short = ap (is_among (strict_name ∷ valued_names)) (further_before 45 (x ∷ xs) refl) ∙ go (x == 61) refl
     where
-      go : (t : Bool) → (x == 61) ≡ t → named (45 ∷ before_first is_equals (x ∷ xs)) ≡ false
-      go true e = rw e refl
-      go false e = ap (λ r. named (45 ∷ r)) (further_before x xs e) ∙ rw other refl
+      go : (t : Bool) → (x == 61) ≡ t → is_among (strict_name ∷ valued_names) (45 ∷ before_first is_equals (x ∷ xs)) ≡ false
+      go true e = rw e (not_hyphen [] (λ e. cc))
+      go false e = ap (λ r. is_among (strict_name ∷ valued_names) (45 ∷ r)) (further_before x xs e) ∙ not_hyphen (x ∷ before_first is_equals xs) other_byte

@@ -1,5 +1,6 @@
 mod EachInput
 mod FormFits
+mod FormRead
 mod FormRows
 mod FormVerdict
 mod FormWalk

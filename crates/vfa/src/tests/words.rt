@@ -56,9 +56,18 @@ fn a_number_of_workers_is_given_once(rt: HostRuntime) -> Result<(), Fail> {
 
 #[test]
 fn one_job_is_given(rt: HostRuntime) -> Result<(), Fail> {
-    check_usage(&rt, &["opt", "facts"])?;
-    check_usage(&rt, &["facts", "facts"])?;
-    check_usage(&rt, &["Facts"])
+    check_usages(
+        &rt,
+        &[
+            &["opt", "facts"],
+            &["facts", "facts"],
+            &["Facts"],
+            &["ask", "ask", "--function=f", "--value=x", "--block=b"],
+            &["opt", "ask", "--function=f", "--value=x", "--block=b"],
+            &["self", "self", "--seed=1"],
+            &["self", "--seed=1", "facts"],
+        ],
+    )
 }
 
 // The order, and whether `=` or a blank stands before the number, change nothing.
@@ -150,15 +159,16 @@ fn no_job_is_given(rt: HostRuntime) -> Result<(), Fail> {
             &["--strict"],
             &["--workers=4"],
             &["--workers", "opt"],
-            &["ask"],
-            &["self"],
+            &["--seed=1"],
+            &["--function=f", "--value=x", "--block=b"],
+            &["--function", "ask", "--value=x", "--block=b"],
             &["opt", ""],
             &["opt", "-"],
         ],
     )
 }
 
-// Options of jobs that are not built, and none at all; there is no short form, no help and no version.
+// Options of other jobs, and none at all; there is no short form, no help and no version.
 #[test]
 fn other_options_are_in_no_command(rt: HostRuntime) -> Result<(), Fail> {
     check_usages(
@@ -172,6 +182,9 @@ fn other_options_are_in_no_command(rt: HostRuntime) -> Result<(), Fail> {
             &["opt", "--seed=1"],
             &["opt", "--seed", "1", "--seed", "1"],
             &["facts", "--block=entry"],
+            &["ask", "--function=f", "--value=x", "--block=b", "--to=a"],
+            &["ask", "--function=f", "--value=x", "--block=b", "-f"],
+            &["self", "--seed=1", "--seeds=1"],
             &["opt", "--workers", "--strict"],
             &["opt", "--strict=", "--workers=1"],
             &["opt", "-w", "1"],
@@ -188,6 +201,181 @@ fn other_options_are_in_no_command(rt: HostRuntime) -> Result<(), Fail> {
             &["opt", "--version"],
             &["-V"],
             &["--", "opt", "--workers=1"],
+        ],
+    )
+}
+
+#[test]
+fn a_question_names_a_function_a_value_and_a_block(rt: HostRuntime) -> Result<(), Fail> {
+    check_usages(
+        &rt,
+        &[
+            &["ask"],
+            &["ask", "--from=a"],
+            &["ask", "--value", "x", "--block", "b"],
+            &["ask", "--function", "f", "--block", "b"],
+            &["ask", "--function", "f", "--value", "x"],
+            &["ask", "--function", "f", "--value", "x", "--block"],
+            &["ask", "--function", "f", "--value", "--block", "b"],
+            &["ask", "--function=f", "--value=x", "--", "--block=b"],
+        ],
+    )
+}
+
+#[test]
+fn a_name_is_not_empty(rt: HostRuntime) -> Result<(), Fail> {
+    check_usages(
+        &rt,
+        &[
+            &["ask", "--function=", "--value=x", "--block=b"],
+            &["ask", "--function", "", "--value=x", "--block=b"],
+            &["ask", "--function=f", "--value=", "--block=b"],
+            &["ask", "--function=f", "--value", "", "--block=b"],
+            &["ask", "--function=f", "--value=x", "--block="],
+            &["ask", "--function=f", "--value=x", "--block", ""],
+            &["ask", "--function=f", "--value=x", "--block=b", "--from="],
+            &[
+                "ask",
+                "--function=f",
+                "--value=x",
+                "--block=b",
+                "--from",
+                "",
+            ],
+        ],
+    )
+}
+
+#[test]
+fn a_name_is_given_once(rt: HostRuntime) -> Result<(), Fail> {
+    check_usages(
+        &rt,
+        &[
+            &[
+                "ask",
+                "--function=f",
+                "--function=f",
+                "--value=x",
+                "--block=b",
+            ],
+            &[
+                "ask",
+                "--function=f",
+                "--value",
+                "x",
+                "--value",
+                "x",
+                "--block=b",
+            ],
+            &[
+                "ask",
+                "--function=f",
+                "--value=x",
+                "--block=b",
+                "--block",
+                "b",
+            ],
+            &[
+                "ask",
+                "--from=a",
+                "--function=f",
+                "--value=x",
+                "--block=b",
+                "--from=a",
+            ],
+        ],
+    )
+}
+
+#[test]
+fn a_question_is_for_ask_alone(rt: HostRuntime) -> Result<(), Fail> {
+    check_usages(
+        &rt,
+        &[
+            &["opt", "--function=f", "--value=x", "--block=b"],
+            &["facts", "--function=f", "--value=x", "--block=b"],
+            &["self", "--seed=1", "--function=f", "--value=x", "--block=b"],
+            &["opt", "--from=a"],
+            &["facts", "--from", "a"],
+            &["self", "--seed=1", "--from=a"],
+        ],
+    )
+}
+
+#[test]
+fn a_seed_is_for_self_alone(rt: HostRuntime) -> Result<(), Fail> {
+    check_usages(
+        &rt,
+        &[
+            &["opt", "--seed=1"],
+            &["facts", "--seed", "1"],
+            &["ask", "--function=f", "--value=x", "--block=b", "--seed=1"],
+        ],
+    )
+}
+
+#[test]
+fn self_has_one_seed_and_is_not_strict(rt: HostRuntime) -> Result<(), Fail> {
+    check_usages(
+        &rt,
+        &[
+            &["self"],
+            &["self", "--workers=2"],
+            &["self", "--seed"],
+            &["self", "--seed", "1", "--seed", "1"],
+            &["self", "--seed=1", "--seed=1"],
+            &["self", "--strict", "--seed=1"],
+            &["self", "--seed", "1", "--strict"],
+        ],
+    )
+}
+
+#[test]
+fn a_seed_is_from_0_to_4294967295_in_one_to_ten_digits(rt: HostRuntime) -> Result<(), Fail> {
+    check_usages(
+        &rt,
+        &[
+            &["self", "--seed", ""],
+            &["self", "--seed="],
+            &["self", "--seed", "00000000001"],
+            &["self", "--seed=00000000000"],
+            &["self", "--seed", "4294967296"],
+            &["self", "--seed=4294967296"],
+            &["self", "--seed=9999999999"],
+            &["self", "--seed=18446744073709551617"],
+            &["self", "--seed", "-1"],
+            &["self", "--seed=-1"],
+            &["self", "--seed", "+1"],
+            &["self", "--seed=+1"],
+            &["self", "--seed", "-"],
+            &["self", "--seed=0x1"],
+            &["self", "--seed= 1"],
+        ],
+    )
+}
+
+#[test]
+fn ask_and_self_have_1_to_64_workers_too(rt: HostRuntime) -> Result<(), Fail> {
+    check_usages(
+        &rt,
+        &[
+            &[
+                "ask",
+                "--function=f",
+                "--value=x",
+                "--block=b",
+                "--workers=0",
+            ],
+            &[
+                "ask",
+                "--function=f",
+                "--value=x",
+                "--block=b",
+                "--workers",
+                "65",
+            ],
+            &["self", "--seed=1", "--workers=65"],
+            &["self", "--seed=1", "--workers=1", "--workers=1"],
         ],
     )
 }
