@@ -4,6 +4,7 @@
 mod conditions;
 mod depths;
 mod entries;
+mod generated;
 mod narrowing;
 mod predicates;
 mod questions;

@@ -23,7 +23,7 @@ use vfa_xfer::AnyFact;
 const NEVER_REACHED: &[u8] = b"never-reached";
 
 /// What stands for an answer where the name is not defined.
-const NOT_DEFINED: &[u8] = b"not-defined";
+pub(super) const NOT_DEFINED: &[u8] = b"not-defined";
 
 /// What stands for an answer where the function has no such name or place.
 const NO_QUESTION: &[u8] = b"no-question";
@@ -130,7 +130,7 @@ fn told(alloc: Global, f: &Checked, v: ValueId, place: Place) -> Result<Vec<u8>,
 }
 
 /// The answer to a question.
-fn answer(alloc: Global, f: &Checked, v: ValueId, place: Place) -> Result<Vec<u8>, AllocError> {
+pub(super) fn answer(alloc: Global, f: &Checked, v: ValueId, place: Place) -> Result<Vec<u8>, AllocError> {
     let function = f.function();
     if !is_name(function, v) {
         return Ok(NO_QUESTION.to_vec(alloc)?);
@@ -154,7 +154,7 @@ fn state_at(
 }
 
 /// What the table says of a name at a place; that it is not defined where the state has no fact of it.
-fn by_table(alloc: Global, f: &Checked, v: ValueId, place: Place) -> Result<Vec<u8>, AllocError> {
+pub(super) fn by_table(alloc: Global, f: &Checked, v: ValueId, place: Place) -> Result<Vec<u8>, AllocError> {
     let Some(state) = state_at(alloc, f, place)? else {
         return Ok(NEVER_REACHED.to_vec(alloc)?);
     };
@@ -180,7 +180,7 @@ fn check_both(rt: &impl Abort, alloc: Global, text: &[u8], v: u32, place: Place,
     assert_eq!(rt; table.as_slice(), want);
 }
 
-fn entry_of(b: u32) -> Place {
+pub(super) fn entry_of(b: u32) -> Place {
     Place::Entry(BlockId(b))
 }
 
