@@ -1,12 +1,13 @@
 -- The words of a command, which stand after the name of the program, and the input that a command works on.
-use Rattle.std.specs.Prelude.{ℕ, ◌≡◌, ◌≤◌, ◌==◌, ◌&&◌, Bool, true, false, not, nat_lt, List, [], ◌∷◌, length, map, Option, Some, None, codes, String, string_bytes, bytes_eq, if◌then◌else◌}
+use Rattle.std.specs.Prelude.{ℕ, ◌≡◌, ◌≤◌, ◌==◌, ◌&&◌, ⊤, Bool, true, false, not, nat_lt, List, [], ◌∷◌, length, map, Option, Some, None, codes, String, string_bytes, bytes_eq, if◌then◌else◌}
 use Rattle.std.specs.Global.{Global}
 use Rattle.std.specs.List.{AllByRecursion, list_all, list_any, position_or_len, before_first, after_first}
 use Rattle.std.specs.Str.{byte}
 use Rattle.std.specs.Str.Parse.{IsNumeral, digits_value}
-use Rattle.vfa_io.specs.States.{SourceState, Change}
+use Rattle.vfa_io.specs.States.{SourceState, Change, SourceFailed}
 use Rattle.vfa_opt.specs.declared.jobs.Job.{Job}
 use Rattle.vfa_opt.specs.declared.questions.Question.{Question}
+use Rattle.vfa_opt.specs.Generated.{generated_text}
 use Rattle.vfa.specs.declared.command.Command.{Command}
 
 -- the bytes of each word
@@ -198,13 +199,30 @@ pub record AreCommand (words : List (List ℕ)) (command : Command) : Type 0 whe
 abbrev pub HasWorkers : Command → Type 0
 HasWorkers command = (1 ≤ command.workers) × (command.workers ≤ most_workers)
 
--- What a job works on: the bytes that the source has left, where it tells them.
+-- What a job works on: the generated text of the seed, and for all others the bytes that the source has left, where it tells them.
 abbrev pub IsInputOf : Job → SourceState → List ℕ → Type 0
-IsInputOf job source input = source.left ≡ Some input
+IsInputOf Job.Opt source input = source.left ≡ Some input
+IsInputOf Job.Facts source input = source.left ≡ Some input
+IsInputOf (Job.Ask _) source input = source.left ≡ Some input
+IsInputOf (Job.SelfRun seed) source input = input ≡ generated_text seed
 
--- what a job reads: all that the source has left
+-- all jobs but `self` read the source
+abbrev pub ReadsSource : Job → Type 0
+ReadsSource Job.Opt = ⊤
+ReadsSource Job.Facts = ⊤
+ReadsSource (Job.Ask _) = ⊤
+ReadsSource (Job.SelfRun _) = ⊥
+
+-- what a job reads: all that the source has left, and `self` nothing
 abbrev pub IsReadBy : Job → Change SourceState → Type 0
-IsReadBy job source = source.now.left ≡ Some []
+IsReadBy Job.Opt source = source.now.left ≡ Some []
+IsReadBy Job.Facts source = source.now.left ≡ Some []
+IsReadBy (Job.Ask _) source = source.now.left ≡ Some []
+IsReadBy (Job.SelfRun _) source = source.now ≡ source.before
+
+-- the source failed in a job that reads it
+abbrev pub FailsFor : Job → Change SourceState → Type 0
+FailsFor job source = ReadsSource job × SourceFailed source
 
 -- the words ask for the command, and it works on this input
 pub record Asks (words : List (List ℕ)) (source : SourceState) (command : Command) (input : List ℕ) : Type 0 where

@@ -19,7 +19,7 @@ pub record Within (input : List ℕ) (P : Type 0) : Type 0 where
 -- The command refuses the input for this reason. That memory ran out is no reason of an input.
 abbrev pub IsRefusal : Command → List ℕ → Refusal → Type 0
 IsRefusal command input Refusal.TooLong = most < length input
-IsRefusal command input (Refusal.Module refused) = Within input (IsModuleRefusal command.strict input refused)
+IsRefusal command input (Refusal.Module refused) = Within input (IsModuleRefusal command.job command.strict input refused)
 
 -- What was read before the refusal: more than the limit where the input is too long, else all of it.
 abbrev pub IsReadFor : Command → Refusal → Change SourceState → Type 0

@@ -1,12 +1,12 @@
 -- What a run of the program writes, and when each status comes.
-use Rattle.std.specs.Prelude.{ℕ, ◌≤◌, ◌⊎◌, List, ◌++◌, length, codes, All}
+use Rattle.std.specs.Prelude.{ℕ, ◌≤◌, ◌⊎◌, List, ◌++◌, length, codes}
 use Rattle.vfa_io.specs.Bytes.{GotPrefix}
 use Rattle.vfa_io.specs.States.{SourceState, SinkState, Change, SinkFailed, Got, GotNothing}
 use Rattle.vfa_print.specs.Layout.{line_feed}
 use Rattle.vfa.specs.declared.command.Command.{Command}
 use Rattle.vfa.specs.declared.refusals.Refusal.{Refusal}
 use Rattle.vfa_opt.specs.Module.{Piece, IsModule, IsModuleText}
-use Rattle.vfa_opt.specs.Sound.{IsSoundPiece}
+use Rattle.vfa_opt.specs.Sound.{IsSoundFor}
 use Rattle.vfa.specs.Refusals.{most, refusal_text}
 use Rattle.vfa.specs.Stops.{IsRefusedFor}
 
@@ -28,11 +28,13 @@ Reports err message = Got err message ⊎ (SinkFailed err × GotPrefix err.befor
 
 -- The command's text of the input's module and the notes on it. What `opt` writes for an accepted function reads as a
 -- function which refines it, and prints each of its operands that its table knows to be one number as that number. What `facts`
--- writes for one is the report by its table, each line of which holds whenever a run of the function comes to the line's place.
+-- writes for one is the report by its table, each line of which holds whenever a run of the function comes to the line's place. What
+-- `ask` writes is what the table of the one function says of the value at the place, and it holds whenever a run comes there. What
+-- `self` writes is the summary of `opt` on the generated text.
 pub record IsAnswer (command : Command) (input text notes : List ℕ) : Type 0 where
   pub within : length input ≤ most
   pub is : IsModuleText command.job command.strict input text notes
-  pub sound : (pieces : List Piece) → IsModule command.strict input pieces → All (IsSoundPiece command.job) pieces
+  pub sound : (pieces : List Piece) → IsModule command.strict input pieces → IsSoundFor command.job pieces
 
 -- ---- ends
 

@@ -1,12 +1,13 @@
 //! The run of the program, from words and a source to a status.
 
-ghost use Rattle.std.specs.Prelude.{◌≡◌, ℕ, ◌≤◌, ◌⊎◌, List, IfOk, IfErr, OnOk, OnErr, length};
+ghost use Rattle.std.specs.Prelude.{◌≡◌, ℕ, ◌≤◌, ◌⊎◌, ◌↔◌, List, IfOk, IfErr, IsTrue, OnOk, OnErr, length};
 ghost use Rattle.vfa_io.specs.States.{change, SourceFailed, GaveAtMost, GaveMore, SinkFailed, Got, GotNothing};
+ghost use Rattle.vfa_opt.specs.Module.{input_of};
 ghost use Rattle.vfa.specs.declared.command.Command.{Command};
 ghost use Rattle.vfa.specs.declared.refusals.Refusal.{Refusal};
 ghost use Rattle.vfa.specs.declared.refusals.Refusal.TheVariants.{TooLong};
 ghost use Rattle.vfa.specs.declared.run.Stop.TheVariants.{Memory as OutOfMemory};
-ghost use Rattle.vfa.specs.Command.{texts, HasWorkers, AreCommand, Asks, IsInputOf, IsReadBy};
+ghost use Rattle.vfa.specs.Command.{texts, HasWorkers, AreCommand, Asks, FailsFor, IsInputOf, IsReadBy, ReadsSource};
 ghost use Rattle.vfa.specs.Refusals.{most, IsRefusal, refusal_text};
 ghost use Rattle.vfa.specs.Run.{usage_line, fault_read, Reports, IsAnswer, IsDone, IsRefused, StoppedInText, StoppedInNotes, IsWriteFault};
 ghost use Rattle.vfa.specs.Stops.{IsInputStop, IsStop, IsStopOf, IsReadStop};
@@ -17,7 +18,7 @@ use crate::status::Status;
 use std::alloc::{AllocGlobal, Global};
 use std::thread::Threads;
 use vfa_io::{Failed, ReadFault, Sink, Source, read_all, write_all};
-use vfa_opt::{Refused, Text, module_out};
+use vfa_opt::{Job, Refused, Text, generated_is_within, module_out};
 use vfa_par::Gate;
 
 /// The most bytes that an input may have.
@@ -50,26 +51,28 @@ fn stop_of(alloc: Global, refusal: &Refusal) -> Stop
     }
 }
 
-// The command's text of the input's module, and the notes on it.
+// The command's text of its input, and the notes on it; the input are these bytes, or the generated text.
 fn answer<R: AllocGlobal + Threads + Sync, G: Gate>(
     rt: &R,
     command: &Command,
-    input: &[u8],
+    bytes: &[u8],
     gate: &G,
 ) -> Result<Text, Stop>
-    requires limit { length input.now ≤ most }
+    requires limit { length bytes.now ≤ most }
     requires workers { HasWorkers command.now }
-    ensures answer { IfOk result (λ text. IsAnswer command.now input.now text.out.items text.notes.items) }
-    ensures stop { IfErr result (IsInputStop command.now input.now) }
+    ensures answer { IfOk result (λ text. IsAnswer command.now (input_of command.now.job bytes.now) text.out.items text.notes.items) }
+    ensures stop { IfErr result (IsInputStop command.now (input_of command.now.job bytes.now)) }
     ensures read { IfErr result (λ stop. IsReadStop stop → ⊥) }
-    ensures refuses { (reason : Refusal) → IsRefusal command.now input.now reason → OnOk result ⊥ × IfErr result (IsStopOf reason) }
+    ensures refuses { (reason : Refusal) → IsRefusal command.now (input_of command.now.job bytes.now) reason →
+        OnOk result ⊥ × IfErr result (IsStopOf reason) }
 {
+    generated_is_within();
     match module_out(
         rt,
         &command.job,
         command.workers,
         command.strict,
-        input,
+        bytes,
         gate,
     ) {
         Ok(text) => Ok(text),
@@ -84,7 +87,8 @@ fn answer_source<R: AllocGlobal + Threads + Sync, S: Source, G: Gate>(
     source: &mut S,
     gate: &G,
 ) -> Result<Text, Stop>
-    requires { HasWorkers command.now }
+    requires workers { HasWorkers command.now }
+    requires reads { ReadsSource command.now.job }
     ensures answer { (input : List ℕ) → IsInputOf command.now.job (S.state source.old) input →
         IfOk result (λ text. IsAnswer command.now input text.out.items text.notes.items) }
     ensures end { (input : List ℕ) → IsInputOf command.now.job (S.state source.old) input →
@@ -107,6 +111,43 @@ fn answer_source<R: AllocGlobal + Threads + Sync, S: Source, G: Gate>(
         Err(ReadFault::Memory) => return Err(Stop::Memory),
     };
     answer(rt, command, &input, gate)
+}
+
+// Whether a job reads the source.
+fn reads_source(job: &Job) -> bool
+    ensures { IsTrue result ↔ ReadsSource job.now }
+{
+    !matches!(job, Job::SelfRun { .. })
+}
+
+// The text and the notes for the command's input.
+fn answer_command<R: AllocGlobal + Threads + Sync, S: Source, G: Gate>(
+    rt: &R,
+    command: &Command,
+    source: &mut S,
+    gate: &G,
+) -> Result<Text, Stop>
+    requires { HasWorkers command.now }
+    ensures answer { (input : List ℕ) → IsInputOf command.now.job (S.state source.old) input →
+        IfOk result (λ text. IsAnswer command.now input text.out.items text.notes.items) }
+    ensures end { (input : List ℕ) → IsInputOf command.now.job (S.state source.old) input →
+        OnOk result (IsReadBy command.now.job (change S.state source.old source.new)) }
+    ensures read { IfErr result (λ stop. IsReadStop stop →
+        FailsFor command.now.job (change S.state source.old source.new) × GaveAtMost (change S.state source.old source.new) most) }
+    ensures stop { (input : List ℕ) → IsInputOf command.now.job (S.state source.old) input →
+        IfErr result (IsStop command.now input (change S.state source.old source.new)) }
+    ensures refuses { (input : List ℕ) → IsInputOf command.now.job (S.state source.old) input →
+        (FailsFor command.now.job (change S.state source.old source.new) → ⊥) →
+        (reason : Refusal) → IsRefusal command.now input reason → OnOk result ⊥ × IfErr result (IsStopOf reason) }
+    ensures too_long { ReadsSource command.now.job → (input : List ℕ) → IsInputOf command.now.job (S.state source.old) input →
+        GaveMore (change S.state source.old source.new) most → OnOk result ⊥ × IfErr result (IsStopOf TooLong) }
+    ensures unread { (ReadsSource command.now.job → ⊥) → source.new ≡ source.old }
+    ensures later { (S.state source.old).faults ≤ (S.state source.new).faults }
+{
+    if reads_source(&command.job) {
+        return answer_source(rt, command, source, gate);
+    }
+    answer(rt, command, &[], gate)
 }
 
 // Writes a message. A fault of the sink is let go: it changes no status.
@@ -148,7 +189,7 @@ fn run_command<R: AllocGlobal + Threads + Sync, S: Source, O: Sink, E: Sink, G: 
     ensures refused { (input : List ℕ) → IsInputOf command.now.job (S.state source.old) input → result ≡ Status.Refused →
         IsRefused command.now input (change S.state source.old source.new) (change E.state err.old err.new) }
     ensures refused_writes_nothing { result ≡ Status.Refused → GotNothing (change O.state out.old out.new) }
-    ensures read_fault { result ≡ Status.ReadFault → SourceFailed (change S.state source.old source.new) }
+    ensures read_fault { result ≡ Status.ReadFault → FailsFor command.now.job (change S.state source.old source.new) }
     ensures read_fault_within { result ≡ Status.ReadFault → GaveAtMost (change S.state source.old source.new) most }
     ensures read_fault_says { result ≡ Status.ReadFault → Reports (change E.state err.old err.new) fault_read }
     ensures read_fault_writes_nothing { result ≡ Status.ReadFault → GotNothing (change O.state out.old out.new) }
@@ -159,19 +200,20 @@ fn run_command<R: AllocGlobal + Threads + Sync, S: Source, O: Sink, E: Sink, G: 
     ensures memory { result ≡ Status.Memory →
         GotNothing (change O.state out.old out.new) × GotNothing (change E.state err.old err.new) }
     ensures completes { (input : List ℕ) → IsInputOf command.now.job (S.state source.old) input →
-        (SourceFailed (change S.state source.old source.new) → ⊥) → (SinkFailed (change O.state out.old out.new) → ⊥) →
+        (FailsFor command.now.job (change S.state source.old source.new) → ⊥) → (SinkFailed (change O.state out.old out.new) → ⊥) →
         (SinkFailed (change E.state err.old err.new) → ⊥) → ((reason : Refusal) → IsRefusal command.now input reason → ⊥) →
         (result ≡ Status.Done) ⊎ (result ≡ Status.Memory) }
     ensures refuses { (input : List ℕ) → IsInputOf command.now.job (S.state source.old) input →
-        (SourceFailed (change S.state source.old source.new) → ⊥) → (reason : Refusal) → IsRefusal command.now input reason →
+        (FailsFor command.now.job (change S.state source.old source.new) → ⊥) → (reason : Refusal) → IsRefusal command.now input reason →
         (result ≡ Status.Memory) ⊎ ((result ≡ Status.Refused) × Reports (change E.state err.old err.new) (refusal_text reason)) }
-    ensures too_long { (input : List ℕ) → IsInputOf command.now.job (S.state source.old) input →
+    ensures too_long { ReadsSource command.now.job → (input : List ℕ) → IsInputOf command.now.job (S.state source.old) input →
         GaveMore (change S.state source.old source.new) most →
         (result ≡ Status.Memory) ⊎ ((result ≡ Status.Refused) × Reports (change E.state err.old err.new) (refusal_text TooLong)) }
+    ensures unread { (ReadsSource command.now.job → ⊥) → source.new ≡ source.old }
     ensures later { ((S.state source.old).faults ≤ (S.state source.new).faults)
         × ((O.state out.old).faults ≤ (O.state out.new).faults) × ((E.state err.old).faults ≤ (E.state err.new).faults) }
 {
-    match answer_source(rt, command, source, gate) {
+    match answer_command(rt, command, source, gate) {
         Ok(text) => match write_answer(out, err, &text) {
             Ok(()) => Status::Done,
             Err(Failed) => Status::WriteFault,
@@ -192,9 +234,10 @@ fn run_command<R: AllocGlobal + Threads + Sync, S: Source, O: Sink, E: Sink, G: 
 /// err.
 ///
 /// `opt` reads a module (`docs/LANGUAGE.md`) and writes it with its functions optimised (`docs/REWRITING.md`). `facts` writes a report on
-/// each of its functions in place of it: what is known of each name, where it is defined and where it is used. The work on
-/// functions is done by as many workers as the command asks for, each piece of it after the gate; what is written is the same for every
-/// number of them.
+/// each of its functions in place of it: what is known of each name, where it is defined and where it is used. `ask` writes what is
+/// known of one value of one function, at the entry of a block or where that is entered from another one. `self` reads no source: it
+/// does `opt` on the text that is generated from its seed, and writes five lines on it. The work on functions is done by as many workers
+/// as the command asks for, each piece of it after the gate; what is written is the same for every number of them.
 pub fn vfa_run<R: AllocGlobal + Threads + Sync, S: Source, O: Sink, E: Sink, G: Gate>(
     rt: &R,
     words: &[String],
@@ -206,13 +249,14 @@ pub fn vfa_run<R: AllocGlobal + Threads + Sync, S: Source, O: Sink, E: Sink, G: 
     // Done: out has the command's text of the input's module, and err has the notes. Each function that `opt` prints reads as
     // one that refines the function that was read, and each operand of this one that its table knows to be one number is printed as
     // that number, wherever its line is still printed; each report of `facts` is the one by the function's table, and each of its
-    // lines holds whenever a run comes to its place. The input was read to its end.
+    // lines holds whenever a run comes to its place; and so does the answer of `ask`. The input was read to its end, but by `self`
+    // nothing.
     ensures done { (command : Command) (input : List ℕ) → Asks (texts words.now) (S.state source.old) command input →
         result ≡ Status.Done → IsDone command input (change O.state out.old out.new) (change E.state err.old err.new) }
     ensures done_reads { (command : Command) (input : List ℕ) → Asks (texts words.now) (S.state source.old) command input →
         result ≡ Status.Done → IsReadBy command.job (change S.state source.old source.new) }
 
-    // Refused: the input is too long, or no module. Out has nothing, and err has the message.
+    // Refused: the input is too long, or no module, or has no answer to the question. Out has nothing, and err has the message.
     ensures refused { (command : Command) (input : List ℕ) → Asks (texts words.now) (S.state source.old) command input →
         result ≡ Status.Refused →
         IsRefused command input (change S.state source.old source.new) (change E.state err.old err.new) }
@@ -227,9 +271,10 @@ pub fn vfa_run<R: AllocGlobal + Threads + Sync, S: Source, O: Sink, E: Sink, G: 
     ensures usage_reads_nothing { result ≡ Status.Usage → source.new ≡ source.old }
     ensures usage_writes_nothing { result ≡ Status.Usage → GotNothing (change O.state out.old out.new) }
 
-    // ReadFault: only where the source's count of faults rose, after at most as many bytes as are allowed. Out has
-    // nothing, and err has the message.
+    // ReadFault: only where the source's count of faults rose, after at most as many bytes as are allowed, and in no job
+    // that reads no source. Out has nothing, and err has the message.
     ensures read_fault { result ≡ Status.ReadFault → SourceFailed (change S.state source.old source.new) }
+    ensures read_fault_reads { (command : Command) → AreCommand (texts words.now) command → result ≡ Status.ReadFault → ReadsSource command.job }
     ensures read_fault_within { result ≡ Status.ReadFault → GaveAtMost (change S.state source.old source.new) most }
     ensures read_fault_says { result ≡ Status.ReadFault → Reports (change E.state err.old err.new) fault_read }
     ensures read_fault_writes_nothing { result ≡ Status.ReadFault → GotNothing (change O.state out.old out.new) }
@@ -247,17 +292,18 @@ pub fn vfa_run<R: AllocGlobal + Threads + Sync, S: Source, O: Sink, E: Sink, G: 
 
     // The other directions. Where no count rises and the input is not refused, all is done. Where the source's count does
     // not rise, the input is refused for each reason that holds; and where it gave too many bytes, it is refused for that,
-    // whether its count rose or not.
+    // whether its count rose or not. The source's count is no matter of a job that reads no source, which leaves it as it is.
     ensures completes { (command : Command) (input : List ℕ) → Asks (texts words.now) (S.state source.old) command input →
-        (SourceFailed (change S.state source.old source.new) → ⊥) → (SinkFailed (change O.state out.old out.new) → ⊥) →
+        (FailsFor command.job (change S.state source.old source.new) → ⊥) → (SinkFailed (change O.state out.old out.new) → ⊥) →
         (SinkFailed (change E.state err.old err.new) → ⊥) → ((reason : Refusal) → IsRefusal command input reason → ⊥) →
         (result ≡ Status.Done) ⊎ (result ≡ Status.Memory) }
     ensures refuses { (command : Command) (input : List ℕ) → Asks (texts words.now) (S.state source.old) command input →
-        (SourceFailed (change S.state source.old source.new) → ⊥) → (reason : Refusal) → IsRefusal command input reason →
+        (FailsFor command.job (change S.state source.old source.new) → ⊥) → (reason : Refusal) → IsRefusal command input reason →
         (result ≡ Status.Memory) ⊎ ((result ≡ Status.Refused) × Reports (change E.state err.old err.new) (refusal_text reason)) }
     ensures too_long { (command : Command) (input : List ℕ) → Asks (texts words.now) (S.state source.old) command input →
-        GaveMore (change S.state source.old source.new) most →
+        ReadsSource command.job → GaveMore (change S.state source.old source.new) most →
         (result ≡ Status.Memory) ⊎ ((result ≡ Status.Refused) × Reports (change E.state err.old err.new) (refusal_text TooLong)) }
+    ensures unread { (command : Command) → AreCommand (texts words.now) command → (ReadsSource command.job → ⊥) → source.new ≡ source.old }
 
     // Counts never fall.
     ensures later { ((S.state source.old).faults ≤ (S.state source.new).faults)

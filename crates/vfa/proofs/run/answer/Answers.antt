@@ -6,10 +6,12 @@ use Rattle.vfa.specs.declared.refusals.Refusal.{Refusal}
 use Rattle.vfa.specs.declared.run.Stop.{Stop}
 use Rattle.vfa.specs.Refusals.{most}
 use Rattle.vfa.specs.Stops.{IsInputStop, IsStopOf}
+use Rattle.vfa_opt.specs.Module.{input_of}
+use Rattle.vfa.proofs.EachInput.{input_within}
 use Rattle.vfa.proofs.run.answer.Goals as goal
 
 stop_at : (command : Command) (input : List ℕ) (refused : Refused) (stop : Stop) → length input ≤ most →
-    (refused ≡ Refused.Memory) ⊎ IsModuleRefusal command.strict input refused → IsStopOf (Refusal.Module refused) stop →
+    (refused ≡ Refused.Memory) ⊎ IsModuleRefusal command.job command.strict input refused → IsStopOf (Refusal.Module refused) stop →
     IsInputStop command input stop
 stop_at command input refused Stop.Read limit why is = absurd is
 stop_at command input refused (Stop.Refused message) limit (inl memory) is = absurd (is.1 (ap Refusal.Module memory))
@@ -19,4 +21,6 @@ stop_at command input refused Stop.Memory limit why is = tt
 
 pub returns-in-Err-clause-stop : goal.returns-in-Err-clause-stop
 returns-in-Err-clause-stop g c =
-    stop_at c.args.command.now c.args.input.now c.in-Err.refused c.stop_of.result c.requires.limit c.in-Err.ensures.refused c.stop_of.ensures
+    let command = c.args.command.now in
+    let limit = input_within c.generated_is_within.ensures command.job c.args.bytes.now c.requires.limit in
+    stop_at command (input_of command.job c.args.bytes.now) c.in-Err.refused c.stop_of.result limit c.in-Err.ensures.refused c.stop_of.ensures
