@@ -5,7 +5,7 @@ use Rattle.vfa_ir.specs.declared.functions.Function.{Function}
 use Rattle.vfa_ir.specs.declared.operations.BlockId.{BlockId}
 use Rattle.vfa_ir.specs.Defined.{line_count}
 use Rattle.vfa_ir.specs.Shown.{shown_value_name}
-use Rattle.vfa_ir.specs.Walks.{IsDefinedAt, IsEdge, IsMissedAt, is_in, successors}
+use Rattle.vfa_ir.specs.Walks.{IsEdge, is_in, successors}
 use Rattle.vfa_mean.specs.FreshOperands.{IsDefinedAtPlace}
 use Rattle.vfa_xfer.specs.Transfers.{fact_answers}
 use Rattle.vfa_xfer.specs.declared.any_fact.AnyFact.{AnyFact}
@@ -14,7 +14,7 @@ use Rattle.vfa_lazy.specs.declared.questions.Place.{Place}
 use Rattle.vfa_lazy.specs.Questions.{IsAnswer, IsMissed, place_of}
 use Rattle.vfa_opt.specs.declared.questions.Question.{Question}
 use Rattle.vfa_opt.specs.declared.refusals.Refused.{Refused}
-use Rattle.vfa_opt.specs.Asked.{CanAnswer, Concerns, HasNoBlock, HasNoEdge, HasNoPlace, IsAnswerText, IsNotDefined, IsPlaceNamed, IsQuestionRefusal, answer_text, block_named, value_named}
+use Rattle.vfa_opt.specs.Asked.{CanAnswer, Concerns, HasNoBlock, HasNoPlace, IsAnswerText, IsPlaceNamed, IsQuestionRefusal, answer_text, block_named, value_named}
 use Rattle.vfa_opt.proofs.MissedWalks.{defined_or_missed}
 use Rattle.vfa_opt.proofs.Subjects.{apart, one_place, one_value, value_shown}
 

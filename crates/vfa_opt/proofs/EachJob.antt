@@ -8,7 +8,7 @@ use Rattle.vfa_opt.specs.declared.refusals.Refused.{Refused}
 use Rattle.vfa_opt.specs.declared.writings.Writing.{Writing}
 use Rattle.vfa_opt.specs.Asked.{CanAnswer, IsAnswerText}
 use Rattle.vfa_opt.specs.Generated.{summary_text}
-use Rattle.vfa_opt.specs.Module.{Piece, Splits, IsModule, IsModuleText, IsAskedText, IsSummary, IsJobText, carried_functions, function_named, notes_of}
+use Rattle.vfa_opt.specs.Module.{Piece, Splits, IsModule, IsModuleText, IsAskedText, IsJobText, carried_functions, function_named, notes_of}
 use Rattle.vfa_opt.specs.Refusals.{IsAnswerable, IsModuleRefusal, IsRefusal, IsUnanswered, IsUnansweredBy}
 use Rattle.vfa_opt.proofs.Answerable.{OneAnswer, answer_has_no_reason, answer_or_reason, one_answer_text, one_reason, text_answers}
 use Rattle.vfa_opt.proofs.EachInput.{OneList, OneOptimised, OneReport, WasChecked, module_not_refused, one_refused, one_written}

@@ -1,5 +1,5 @@
 -- A question names one value and one place of a function.
-use Rattle.std.proofs.Common.{◌≡◌, ◌<◌, ◌≤◌, ◌^◌, inl, inr, ℕ, Bool, true, false, Option, Some, None, List, [], bytes_eq, get_or, length, refl, sym, ap, subst, ◌∙◌, arith}
+use Rattle.std.proofs.Common.{◌≡◌, ◌<◌, ◌≤◌, ◌^◌, ℕ, Option, Some, None, List, [], bytes_eq, get_or, length, sym, ap, subst, ◌∙◌, arith}
 use Rattle.std.proofs.lemmas.List.FromFn.{get_or-map-range_with_len, length-map-range_with_len}
 use Rattle.std.proofs.lemmas.List.Quantifiers.{position-Some}
 use Rattle.std.proofs.lemmas.Option.{same_Some}
@@ -9,13 +9,12 @@ use Rattle.vfa_ir.specs.declared.operations.BlockId.{BlockId}
 use Rattle.vfa_ir.specs.declared.operations.ValueId.{ValueId}
 use Rattle.vfa_ir.specs.Resolution.{Scope}
 use Rattle.vfa_ir.specs.Shown.{shown_block_name, shown_value_name}
-use Rattle.vfa_ir.specs.Walks.{IsEdge, is_in, successors}
 use Rattle.vfa_print.specs.Trees.{shown_scope}
 use Rattle.vfa_check.specs.Checked.{IsSmall}
 use Rattle.vfa_lazy.specs.declared.questions.Place.{Place}
 use Rattle.vfa_lazy.specs.Questions.{IsAskedOf}
 use Rattle.vfa_opt.specs.declared.questions.Question.{Question}
-use Rattle.vfa_opt.specs.Asked.{Concerns, HasNoPlace, HasValue, IsPlaceNamed, block_named, place_in, value_named}
+use Rattle.vfa_opt.specs.Asked.{Concerns, HasValue, IsPlaceNamed, block_named, place_in, value_named}
 
 pub apart : {A X : Type 0} {x : A} → ◌≡◌ {A = Option A} None (Some x) → X
 apart e = absurd (let never = e in cc)
@@ -80,56 +79,8 @@ one_place f q (Place.Pair p a) (Place.Pair p' b) m n =
 pub one_value : (f : Function) (q : Question) (v w : ℕ) (a b : Place) → Concerns f q v a → Concerns f q w b → v ≡ w
 one_value f q v w a b c d = same_Some v w (sym c.value ∙ d.value)
 
--- ---- places that are found, or not
+-- ---- a value that is found
 
-module _ (f : Function) (q : Question) (scope : Scope) (is : scope ≡ shown_scope f) where
-  block_by : (name : List ℕ) (o : Option ℕ) → o ≡ place_in name scope.blocks → block_named f name ≡ o
-  block_by name o e = ap (λ (s : Scope). place_in name s.blocks) (sym is) ∙ sym e
-
-  value_by : (name : List ℕ) (o : Option ℕ) → o ≡ place_in name scope.values → value_named f name ≡ o
-  value_by name o e = ap (λ (s : Scope). place_in name s.values) (sym is) ∙ sym e
-
-  pub entered : (from : List ℕ) (p b : BlockId) → q.from ≡ Some from → block_named f q.block ≡ Some b.0 → Some p.0 ≡ place_in from scope.blocks →
-      is_in b.0 (successors f p.0) ≡ true → IsPlaceNamed f q (Place.Pair p b)
-  entered from p b given block first leads =
-      record { from = from; given = given; first = block_by from (Some p.0) first; second = block; edge = leads }
-
-  pub not_there : (from : List ℕ) (b : BlockId) → q.from ≡ Some from → block_named f q.block ≡ Some b.0 → None ≡ place_in from scope.blocks →
-      HasNoPlace f q from
-  not_there from b given block first = inr (record {
-    b = b.0;
-    block = block;
-    from = given;
-    none = λ p named edge. apart (sym (block_by from None first) ∙ named);
-  })
-
-  pub not_entered : (from : List ℕ) (p b : BlockId) → q.from ≡ Some from → block_named f q.block ≡ Some b.0 → Some p.0 ≡ place_in from scope.blocks →
-      is_in b.0 (successors f p.0) ≡ false → HasNoPlace f q from
-  not_entered from p b given block first leads = inr (record {
-    b = b.0;
-    block = block;
-    from = given;
-    none = λ k named edge.
-        let same : k ≡ p.0 = same_Some k p.0 (sym named ∙ block_by from (Some p.0) first) in
-        let yes : is_in b.0 (successors f p.0) ≡ true = subst (λ i. IsEdge f i b.0) same edge in
-        absurd (let no = leads in cc);
-  })
-
-  pub no_block : None ≡ place_in q.block scope.blocks → HasNoPlace f q q.block
-  no_block first = inl (record { is = refl; none = block_by q.block None first })
-
-  pub entry_named : (b : BlockId) → q.from ≡ None → Some b.0 ≡ place_in q.block scope.blocks → IsPlaceNamed f q (Place.Entry b)
-  entry_named b given first = (given, block_by q.block (Some b.0) first)
-
-  pub no_value : None ≡ place_in q.value scope.values → value_named f q.value ≡ None
-  no_value first = value_by q.value None first
-
-  pub subject_named : (v : ValueId) (place : Place) → Some v.0 ≡ place_in q.value scope.values → IsPlaceNamed f q place → Concerns f q v.0 place
-  subject_named v place first names = record { value = value_by q.value (Some v.0) first; names = names }
-
-  pub value_there : (v : ValueId) → Some v.0 ≡ place_in q.value scope.values → HasValue f q
-  value_there v first = record { v = v.0; value = value_by q.value (Some v.0) first }
-
--- a place that was found in a list of names fits the number that it becomes
-pub found_fits : (name : List ℕ) (names : List (List ℕ)) (i : ℕ) → length names ≤ 2 ^ 28 → Some i ≡ place_in name names → i < 2 ^ 32
-found_fits name names i few e = let less = stands_within name names i (sym e) in omega (arith, less, few)
+pub value_there : (f : Function) (q : Question) (scope : Scope) → scope ≡ shown_scope f → (v : ValueId) → Some v.0 ≡ place_in q.value scope.values →
+    HasValue f q
+value_there f q scope is v first = record { v = v.0; value = ap (λ (s : Scope). place_in q.value s.values) (sym is) ∙ sym first }

@@ -1,6 +1,6 @@
 -- The line that is written for an answer is the text of the question, true, or a reason why it has none.
-use Rattle.std.proofs.Common.{◌≡◌, ◌⊎◌, inl, inr, ℕ, Result, Ok, Err, Vec, List, refl, sym, ap, subst, ◌∙◌}
-use Rattle.std.specs.Prelude.{IfOk, IfErr, OnOk}
+use Rattle.std.proofs.Common.{◌≡◌, ℕ, Result, Ok, Err, Vec, List, ap, subst, ◌∙◌}
+use Rattle.std.specs.Prelude.{IfOk, OnOk}
 use Rattle.vfa_ir.specs.declared.functions.Function.{Function}
 use Rattle.vfa_xfer.specs.AnyFacts.{HoldsOf, IsAnyFact, fact_type}
 use Rattle.vfa_xfer.specs.Transfers.{fact_answers}

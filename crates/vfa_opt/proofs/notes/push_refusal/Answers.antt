@@ -1,6 +1,6 @@
 use Rattle.std.proofs.Common.{◌≡◌, ◌++◌, codes, subst, sym}
 use Rattle.std.specs.Prelude.{OnOk}
-use Rattle.vfa_print.specs.Layout.{name_text, line_feed}
+use Rattle.vfa_print.specs.Layout.{line_feed, name_text}
 use Rattle.vfa_opt.specs.Module.{local_text}
 use Rattle.vfa_opt.specs.Refusals.{refusal_text}
 use Rattle.vfa_opt.proofs.notes.push_refusal.Goals as goal
