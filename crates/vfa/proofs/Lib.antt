@@ -6,4 +6,5 @@ mod FormVerdict
 mod FormWalk
 mod FormWords
 mod SourceInputs
+mod UnreadInputs
 mod Workers

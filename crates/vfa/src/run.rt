@@ -144,6 +144,7 @@ fn answer_command<R: AllocGlobal + Threads + Sync, S: Source, G: Gate>(
     ensures unread { (ReadsSource command.now.job → ⊥) → source.new ≡ source.old }
     ensures later { (S.state source.old).faults ≤ (S.state source.new).faults }
 {
+    generated_is_within();
     if reads_source(&command.job) {
         return answer_source(rt, command, source, gate);
     }

@@ -130,7 +130,12 @@ fn told(alloc: Global, f: &Checked, v: ValueId, place: Place) -> Result<Vec<u8>,
 }
 
 /// The answer to a question.
-pub(super) fn answer(alloc: Global, f: &Checked, v: ValueId, place: Place) -> Result<Vec<u8>, AllocError> {
+pub(super) fn answer(
+    alloc: Global,
+    f: &Checked,
+    v: ValueId,
+    place: Place,
+) -> Result<Vec<u8>, AllocError> {
     let function = f.function();
     if !is_name(function, v) {
         return Ok(NO_QUESTION.to_vec(alloc)?);
@@ -154,7 +159,12 @@ fn state_at(
 }
 
 /// What the table says of a name at a place; that it is not defined where the state has no fact of it.
-pub(super) fn by_table(alloc: Global, f: &Checked, v: ValueId, place: Place) -> Result<Vec<u8>, AllocError> {
+pub(super) fn by_table(
+    alloc: Global,
+    f: &Checked,
+    v: ValueId,
+    place: Place,
+) -> Result<Vec<u8>, AllocError> {
     let Some(state) = state_at(alloc, f, place)? else {
         return Ok(NEVER_REACHED.to_vec(alloc)?);
     };

@@ -300,7 +300,12 @@ fn no_answer_about_a_counter(rt: HostRuntime) -> Result<(), Fail> {
         at("count", "zz", "exit"),
         b"refused: NoValue %zz\n",
     )?;
-    check_no_answer(&rt, COUNT, at("count", "i", "zz"), b"refused: NoBlock %zz\n")?;
+    check_no_answer(
+        &rt,
+        COUNT,
+        at("count", "i", "zz"),
+        b"refused: NoBlock %zz\n",
+    )?;
     check_no_answer(
         &rt,
         COUNT,

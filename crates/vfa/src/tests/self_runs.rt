@@ -1,8 +1,7 @@
 //! Runs of `self`, which reads no source.
 use super::*;
 
-const SEVEN: &[u8] =
-    b"seed 7\nfunctions 256\nread 316369 bytes\nprinted 50317 bytes\ncarried 0\n";
+const SEVEN: &[u8] = b"seed 7\nfunctions 256\nread 316369 bytes\nprinted 50317 bytes\ncarried 0\n";
 
 /// The words are those of `self`, and its run writes these lines, whatever the source would give.
 fn check_self<R: AllocGlobal + Abort + Threads + Sync>(
