@@ -1,5 +1,7 @@
 //! Questions about each name at each block of generated functions.
 
+ghost use Rattle.std.specs.Prelude.{◌≤◌, length};
+
 use super::questions::{NOT_DEFINED, answer, by_table, entry_of};
 use super::read;
 use std::alloc::{AllocError, Global};
@@ -45,7 +47,9 @@ fn check_function(rt: &impl Abort, alloc: Global, text: &[u8]) {
 }
 
 /// How long the text is up to its first closing brace, with it.
-fn first_function(text: &[u8]) -> usize {
+fn first_function(text: &[u8]) -> usize
+    ensures { result ≤ length text.now }
+{
     match text.iter().position(|byte| *byte == b'}') {
         Some(brace) => brace.saturating_add(1).min(text.len()),
         None => text.len(),
