@@ -76,6 +76,22 @@ fn stops_at_write_faults(rt: HostRuntime) -> Result<(), Fail> {
     check_run(&rt, "opt", small(&rt, POINTER, 4096, 8)?, in_notes)
 }
 
+// A call that failed is not tried again, though a second one would not fail.
+#[test]
+fn writes_nothing_after_a_fault(rt: HostRuntime) -> Result<(), Fail> {
+    let ends = Ends {
+        source: MemSource::new(MASK.to_vec(rt.alloc())?, 4096, Vec::new(rt.alloc())),
+        out: MemSink::new(rt.alloc(), 4096, [1].to_vec(rt.alloc())?)?,
+        err: MemSink::new(rt.alloc(), 4096, Vec::new(rt.alloc()))?,
+    };
+    let want = End {
+        status: Status::WriteFault,
+        out: b"",
+        err: b"",
+    };
+    check_run(&rt, "opt", ends, want)
+}
+
 // A message that err does not take leaves the status as it is.
 #[test]
 fn keeps_the_status_where_a_message_fails(rt: HostRuntime) -> Result<(), Fail> {
