@@ -1,20 +1,22 @@
 -- What is known over a set of amounts is what is known alike for each of them.
-use Rattle.std.proofs.Common.{◌≡◌, ℕ, ◌+◌, ◌*◌, ◌%◌, ◌^◌, ◌<◌, Bool, min, max, sym, ◌∙◌, ap, subst, arith, ◌⊎◌, inl, inr, bit_and, bit_or, bit_xor, ◌≢◌}
-use Rattle.std.specs.Int.{bit_at, w128, trailing_zeros}
+use Rattle.std.proofs.Common.{◌≡◌, ℕ, ◌+◌, ◌-◌, ◌*◌, ◌/◌, ◌%◌, ◌^◌, ◌<◌, ◌≤◌, Bool, min, max, refl, sym, ◌∙◌, ap, subst, arith, ◌⊎◌, inl, inr, bit_and, bit_or, bit_xor}
+use Rattle.std.specs.Int.{bit_at, w128, trailing_zeros, trailing_ones}
 use Rattle.std.proofs.lemmas.Bool.{cases_eq, cases_lt}
-use Rattle.std.proofs.lemmas.Nat.{pow_pos, or_disjoint, one_shl}
-use Rattle.std.proofs.lemmas.Nat.Bits.{bit_at-lt, bit_at_and, bit_at_or, bit_at_xor, bit_at_above, bit_at-zero, bit_at-pow_same, bit_at-pow_other, same_from_bits, bit_at-trailing_zeros}
+use Rattle.std.proofs.lemmas.Nat.{pow_pos, pow_below, or_disjoint, one_shl, shr_le}
+use Rattle.std.proofs.lemmas.Nat.Bits.{bit_at_mask_inside, bit_at_mask_below, bit_at_mask_above, ones_shr, bit_at-lt, bit_at_and, bit_at_or, bit_at_xor, bit_at_above, bit_at-zero, same_from_bits, bit_at-trailing_zeros}
 use Rattle.vfa_dom.specs.Best.{Masks, zeros_of, ones_of, best_of, IsBest}
 use Rattle.vfa_dom.specs.Results.{images, results_over, IsImage, IsResultOver}
-use Rattle.vfa_dom.proofs.Bests.{best_has}
+use Rattle.vfa_dom.proofs.Bests.{digit_cases, best_has}
 use Rattle.vfa_dom.proofs.ResultSets.{images_test, best_over}
 use Rattle.vfa_word.specs.Numbers.{IsWidth}
 use Rattle.vfa_known.specs.declared.shift.Shift.{Shift}
+use Rattle.vfa_known.specs.AmountRuns.{IsLowestRun, IsRest, AreKnownOverRun}
 use Rattle.vfa_known.specs.Shift.{shift_of}
-use Rattle.vfa_known.proofs.Places.{shift_moves}
+use Rattle.vfa_known.proofs.Places.{shift_moves, bit_at_shr}
+use Rattle.vfa_known.proofs.Products.{IsOnesRun, ones_run}
 use Rattle.vfa_known.proofs.Cubes.{apart_from_bits}
 
--- ---- one bit taken out of a number
+-- ---- a run taken out of a number
 
 clear_from_one : (a b c : ℕ) → c ≡ (a + b) % 2 → a ≡ 1 → b ≡ 1 → c ≡ 0
 clear_from_one a b c e f g = grind arith
@@ -22,43 +24,88 @@ clear_from_one a b c e f g = grind arith
 same_with_none : (a b c : ℕ) → a < 2 → c ≡ (a + b) % 2 → b ≡ 0 → c ≡ a
 same_with_none a b c l e g = grind arith
 
-pub taken_here : (n k : ℕ) → bit_at n k ≡ 1 → bit_at (bit_xor n (2 ^ k)) k ≡ 0
-taken_here n k on =
-    clear_from_one (bit_at n k) (bit_at (2 ^ k) k) (bit_at (bit_xor n (2 ^ k)) k) (bit_at_xor n (2 ^ k) k) on (bit_at-pow_same k)
-
-pub taken_other : (n k i : ℕ) → i ≢ k → bit_at (bit_xor n (2 ^ k)) i ≡ bit_at n i
-taken_other n k i other =
-    same_with_none (bit_at n i) (bit_at (2 ^ k) i) (bit_at (bit_xor n (2 ^ k)) i) (bit_at-lt n i) (bit_at_xor n (2 ^ k) i)
-    (bit_at-pow_other k i other)
-
 largest_of : (a b c d : ℕ) → c ≡ max a b → a ≡ d → b ≡ 0 → c ≡ d
 largest_of a b c d e f g = grind arith
 
 largest_one : (a b c : ℕ) → c ≡ max a b → a ≡ 0 → b ≡ 1 → c ≡ 1
 largest_one a b c e f g = grind arith
 
-pub taken_less : (n k : ℕ) → bit_at n k ≡ 1 → bit_xor n (2 ^ k) < n
-taken_less n k on =
-    let rest : ℕ = bit_xor n (2 ^ k) in
-    let apart : bit_and (bit_xor n (2 ^ k)) (2 ^ k) ≡ 0 = apart_from_bits (bit_xor n (2 ^ k)) (2 ^ k) (λ i one. elim (cases_eq i k) [
-      | inl same ↦ absurd (let here = taken_here n k on in let moved = ap (bit_at (bit_xor n (2 ^ k))) same in omega arith)
-      | inr other ↦ bit_at-pow_other k i other
-    ]) in
-    let back : bit_or (bit_xor n (2 ^ k)) (2 ^ k) ≡ n = same_from_bits (bit_or (bit_xor n (2 ^ k)) (2 ^ k)) n (λ i. elim (cases_eq i k) [
-      | inl same ↦ subst (λ j. bit_at (bit_or (bit_xor n (2 ^ k)) (2 ^ k)) j ≡ bit_at n j) (sym same)
-          (largest_one (bit_at (bit_xor n (2 ^ k)) k) (bit_at (2 ^ k) k) (bit_at (bit_or (bit_xor n (2 ^ k)) (2 ^ k)) k)
-          (bit_at_or (bit_xor n (2 ^ k)) (2 ^ k) k) (taken_here n k on) (bit_at-pow_same k) ∙ sym on)
-      | inr other ↦ largest_of (bit_at (bit_xor n (2 ^ k)) i) (bit_at (2 ^ k) i) (bit_at (bit_or (bit_xor n (2 ^ k)) (2 ^ k)) i) (bit_at n i)
-          (bit_at_or (bit_xor n (2 ^ k)) (2 ^ k) i) (taken_other n k i other) (bit_at-pow_other k i other)
-    ]) in
-    let sum : bit_or (bit_xor n (2 ^ k)) (2 ^ k) ≡ bit_xor n (2 ^ k) + 2 ^ k = or_disjoint (bit_xor n (2 ^ k)) (2 ^ k) apart in
-    less_of (bit_xor n (2 ^ k)) (2 ^ k) n (sym sum ∙ back) (pow_pos k)
-  where
-    less_of : (a b c : ℕ) → a + b ≡ c → 0 < b → a < c
-    less_of a b c e p = omega arith
+-- where the places from lo up to below hi are ones of n, it is n without them
+module _ (n lo hi : ℕ) (some : lo < hi) (inside : (t : ℕ) → lo ≤ t → t < hi → bit_at n t ≡ 1) where
+  taken_here : (t : ℕ) → lo ≤ t → t < hi → bit_at (bit_xor n (2 ^ hi - 2 ^ lo)) t ≡ 0
+  taken_here t from below =
+      clear_from_one (bit_at n t) (bit_at (2 ^ hi - 2 ^ lo) t) (bit_at (bit_xor n (2 ^ hi - 2 ^ lo)) t) (bit_at_xor n (2 ^ hi - 2 ^ lo) t)
+      (inside t from below) (bit_at_mask_inside lo hi t from below)
 
-pub taken_less_at : (n k p : ℕ) → bit_at n k ≡ 1 → p ≡ 2 ^ k → bit_xor n p < n
-taken_less_at n k p on e = subst (λ q. bit_xor n q < n) (sym e) (taken_less n k on)
+  mask_other : (t : ℕ) → (t < lo) ⊎ (hi ≤ t) → bit_at (2 ^ hi - 2 ^ lo) t ≡ 0
+  mask_other t (inl low) = bit_at_mask_below lo hi t low
+  mask_other t (inr high) = bit_at_mask_above lo hi t high
+
+  taken_other : (t : ℕ) → (t < lo) ⊎ (hi ≤ t) → bit_at (bit_xor n (2 ^ hi - 2 ^ lo)) t ≡ bit_at n t
+  taken_other t other =
+      same_with_none (bit_at n t) (bit_at (2 ^ hi - 2 ^ lo) t) (bit_at (bit_xor n (2 ^ hi - 2 ^ lo)) t) (bit_at-lt n t) (bit_at_xor n (2 ^ hi - 2 ^ lo) t)
+      (mask_other t other)
+
+  place_cases : (t : ℕ) → ((lo ≤ t) × (t < hi)) ⊎ ((t < lo) ⊎ (hi ≤ t))
+  place_cases t = elim (cases_lt t lo) [
+    | inl low ↦ inr (inl low)
+    | inr from ↦ elim (cases_lt t hi) [ inl below ↦ inl (from, below) | inr high ↦ inr (inr high) ]
+  ]
+
+  taken_less : bit_xor n (2 ^ hi - 2 ^ lo) < n
+  taken_less =
+      let apart : bit_and (bit_xor n (2 ^ hi - 2 ^ lo)) (2 ^ hi - 2 ^ lo) ≡ 0 = apart_from_bits (bit_xor n (2 ^ hi - 2 ^ lo)) (2 ^ hi - 2 ^ lo) (λ t one. elim (place_cases t) [
+        | inl here ↦ absurd (let off = taken_here t here.0 here.1 in omega arith)
+        | inr other ↦ mask_other t other
+      ]) in
+      let back : bit_or (bit_xor n (2 ^ hi - 2 ^ lo)) (2 ^ hi - 2 ^ lo) ≡ n = same_from_bits (bit_or (bit_xor n (2 ^ hi - 2 ^ lo)) (2 ^ hi - 2 ^ lo)) n (λ t. elim (place_cases t) [
+        | inl here ↦ largest_one (bit_at (bit_xor n (2 ^ hi - 2 ^ lo)) t) (bit_at (2 ^ hi - 2 ^ lo) t) (bit_at (bit_or (bit_xor n (2 ^ hi - 2 ^ lo)) (2 ^ hi - 2 ^ lo)) t)
+            (bit_at_or (bit_xor n (2 ^ hi - 2 ^ lo)) (2 ^ hi - 2 ^ lo) t) (taken_here t here.0 here.1) (bit_at_mask_inside lo hi t here.0 here.1)
+            ∙ sym (inside t here.0 here.1)
+        | inr other ↦ largest_of (bit_at (bit_xor n (2 ^ hi - 2 ^ lo)) t) (bit_at (2 ^ hi - 2 ^ lo) t) (bit_at (bit_or (bit_xor n (2 ^ hi - 2 ^ lo)) (2 ^ hi - 2 ^ lo)) t) (bit_at n t)
+            (bit_at_or (bit_xor n (2 ^ hi - 2 ^ lo)) (2 ^ hi - 2 ^ lo) t) (taken_other t other) (mask_other t other)
+      ]) in
+      less_of (bit_xor n (2 ^ hi - 2 ^ lo)) (2 ^ hi - 2 ^ lo) n
+      (sym (or_disjoint (bit_xor n (2 ^ hi - 2 ^ lo)) (2 ^ hi - 2 ^ lo) apart) ∙ back) (let power = pow_below lo hi some in omega arith)
+    where
+      less_of : (a b c : ℕ) → a + b ≡ c → 0 < b → a < c
+      less_of a b c e p = omega arith
+
+-- the rest as the code computes it
+module _ (w n first count : ℕ) (width : IsWidth w) (run : IsLowestRun w n first count) where
+  below_128 : first + count ≤ 128
+  below_128 = let below = run.below in let most = width.most in omega arith
+
+  up_to_is : (2 ^ 128 - 1) / 2 ^ (128 - (first + count)) ≡ 2 ^ (first + count) - 1
+  up_to_is = let within = below_128 in ones_shr 128 (128 - (first + count)) (omega arith) ∙ ap (λ k. 2 ^ k - 1) (omega arith)
+
+  first_power : 1 * 2 ^ first % 2 ^ 128 ≡ 2 ^ first
+  first_power = let within = below_128 in let some = run.some in one_shl first 128 (omega arith)
+
+  pub below_le : 1 * 2 ^ first % 2 ^ 128 - 1 ≤ (2 ^ 128 - 1) / 2 ^ (128 - (first + count))
+  below_le =
+      let some = run.some in let power = pow_below first (first + count) (omega arith) in
+      let a = up_to_is in let b = first_power in omega arith
+
+  mask_is : (2 ^ 128 - 1) / 2 ^ (128 - (first + count)) - (1 * 2 ^ first % 2 ^ 128 - 1) ≡ 2 ^ (first + count) - 2 ^ first
+  mask_is = let a = up_to_is in let b = first_power in let some = pow_pos first in omega arith
+
+  pub rest_is : IsRest n first count (bit_xor n ((2 ^ 128 - 1) / 2 ^ (128 - (first + count)) - (1 * 2 ^ first % 2 ^ 128 - 1)))
+  rest_is = subst (λ m. IsRest n first count (bit_xor n m)) (sym mask_is) (record {
+    less = taken_less n first (first + count) some_more run.inside;
+    kept = λ t on. elim (place_cases n first (first + count) some_more run.inside t) [
+      | inl here ↦ run.inside t here.0 here.1
+      | inr other ↦ sym (taken_other n first (first + count) some_more run.inside t other) ∙ on
+    ];
+    clear = taken_here n first (first + count) some_more run.inside;
+    taken = λ t on off. elim (place_cases n first (first + count) some_more run.inside t) [
+      | inl here ↦ here
+      | inr other ↦ absurd (let same = taken_other n first (first + count) some_more run.inside t other in omega arith)
+    ];
+  })
+    where
+      some_more : first < first + count
+      some_more = let some = run.some in omega arith
 
 -- ---- the masks over the amounts seen so far
 
@@ -71,35 +118,25 @@ pub record IsMeetOver (w : ℕ) (S : ℕ → ℕ → Bool) (amounts left zeros o
   pub zero_some : (i : ℕ) → i < w → bit_at zeros i ≡ 0 → (t : ℕ) × (bit_at amounts t ≡ 1) × (bit_at (zeros_of w (S t)) i ≡ 0)
   pub one_some : (i : ℕ) → i < w → bit_at ones i ≡ 0 → (t : ℕ) × (bit_at amounts t ≡ 1) × (bit_at (ones_of w (S t)) i ≡ 0)
 
-best_zeros : (w : ℕ) (S : ℕ → Bool) (m : Masks) → m ≡ best_of w S → m.zeros ≡ zeros_of w S
+pub best_zeros : (w : ℕ) (S : ℕ → Bool) (m : Masks) → m ≡ best_of w S → m.zeros ≡ zeros_of w S
 unfolding best_of
 best_zeros w S m e = ap (λ masks. masks.zeros) e
 
-best_ones : (w : ℕ) (S : ℕ → Bool) (m : Masks) → m ≡ best_of w S → m.ones ≡ ones_of w S
+pub best_ones : (w : ℕ) (S : ℕ → Bool) (m : Masks) → m ≡ best_of w S → m.ones ≡ ones_of w S
 unfolding best_of
 best_ones w S m e = ap (λ masks. masks.ones) e
 
 module _ (w : ℕ) (S : ℕ → ℕ → Bool) (amounts : ℕ) where
-  only_first : (first t : ℕ) → bit_at amounts t ≡ 1 → bit_at (bit_xor amounts (2 ^ first)) t ≡ 0 → t ≡ first
-  only_first first t on off = elim (cases_eq t first) [
-    | inl same ↦ same
-    | inr other ↦ absurd (let moved = taken_other amounts first t other in omega arith)
-  ]
-
-  pub first_meet : (first : ℕ) (m : Masks) → bit_at amounts first ≡ 1 → amounts < 2 ^ w → m ≡ best_of w (S first) →
-      IsMeetOver w S amounts (bit_xor amounts (2 ^ first)) m.zeros m.ones
-  first_meet first m on fits best = record {
-    left_fits = let less = taken_less amounts first on in omega arith;
-    from_amounts = λ t one. elim (cases_eq t first) [
-      | inl same ↦ ap (bit_at amounts) same ∙ on
-      | inr other ↦ sym (taken_other amounts first t other) ∙ one
-    ];
-    zero_all = λ t i one off known. subst (λ k. bit_at (zeros_of w (S k)) i ≡ 1) (sym (only_first first t one off))
-        (ap (λ n. bit_at n i) (sym (best_zeros w (S first) m best)) ∙ known);
-    one_all = λ t i one off known. subst (λ k. bit_at (ones_of w (S k)) i ≡ 1) (sym (only_first first t one off))
-        (ap (λ n. bit_at n i) (sym (best_ones w (S first) m best)) ∙ known);
-    zero_some = λ i below clear. (first, on, ap (λ n. bit_at n i) (sym (best_zeros w (S first) m best)) ∙ clear);
-    one_some = λ i below clear. (first, on, ap (λ n. bit_at n i) (sym (best_ones w (S first) m best)) ∙ clear);
+  -- of the first run alone
+  pub first_meet : (first count left : ℕ) (m : Masks) → IsLowestRun w amounts first count → IsRest amounts first count left → amounts < 2 ^ w →
+      AreKnownOverRun w S first count m → IsMeetOver w S amounts left m.zeros m.ones
+  first_meet first count left m run rest fits known = record {
+    left_fits = let less = rest.less in omega arith;
+    from_amounts = rest.kept;
+    zero_all = λ t i one off on. let at = rest.taken t one off in known.zero_all t i at.0 at.1 on;
+    one_all = λ t i one off on. let at = rest.taken t one off in known.one_all t i at.0 at.1 on;
+    zero_some = λ i below clear. let t = known.zero_some i below clear in (t.0, run.inside t.0 t.1 t.2, t.3);
+    one_some = λ i below clear. let t = known.one_some i below clear in (t.0, run.inside t.0 t.1 t.2, t.3);
   }
 
   both_one : (a b c : ℕ) → a < 2 → b < 2 → c ≡ min a b → c ≡ 1 → (a ≡ 1) × (b ≡ 1)
@@ -108,51 +145,81 @@ module _ (w : ℕ) (S : ℕ → ℕ → Bool) (amounts : ℕ) where
   one_none : (a b c : ℕ) → c ≡ min a b → c ≡ 0 → (a ≡ 0) ⊎ (b ≡ 0)
   one_none a b c e f = elim (cases_eq a 0) [ inl none ↦ inl none | inr some ↦ inr (grind arith) ]
 
-  parts_on : (a b i : ℕ) → bit_at (bit_and a b) i ≡ 1 → (bit_at a i ≡ 1) × (bit_at b i ≡ 1)
+  pub parts_on : (a b i : ℕ) → bit_at (bit_and a b) i ≡ 1 → (bit_at a i ≡ 1) × (bit_at b i ≡ 1)
   parts_on a b i on = both_one (bit_at a i) (bit_at b i) (bit_at (bit_and a b) i) (bit_at-lt a i) (bit_at-lt b i) (bit_at_and a b i) on
 
-  parts_off : (a b i : ℕ) → bit_at (bit_and a b) i ≡ 0 → (bit_at a i ≡ 0) ⊎ (bit_at b i ≡ 0)
+  pub parts_off : (a b i : ℕ) → bit_at (bit_and a b) i ≡ 0 → (bit_at a i ≡ 0) ⊎ (bit_at b i ≡ 0)
   parts_off a b i off = one_none (bit_at a i) (bit_at b i) (bit_at (bit_and a b) i) (bit_at_and a b i) off
 
-  pub next_meet : (left zeros ones t : ℕ) (m : Masks) → IsMeetOver w S amounts left zeros ones → bit_at left t ≡ 1 → m ≡ best_of w (S t) →
-      IsMeetOver w S amounts (bit_xor left (2 ^ t)) (bit_and zeros m.zeros) (bit_and ones m.ones)
-  next_meet left zeros ones t m before on best = record {
-    left_fits = let less = taken_less left t on in let fits = before.left_fits in omega arith;
-    from_amounts = λ k one. elim (cases_eq k t) [
-      | inl same ↦ ap (bit_at amounts) same ∙ before.from_amounts t on
-      | inr other ↦ before.from_amounts k (sym (taken_other left t k other) ∙ one)
+  -- and of a run of those left
+  next_meet : (left zeros ones first count rest : ℕ) (m : Masks) → IsMeetOver w S amounts left zeros ones → IsLowestRun w left first count →
+      IsRest left first count rest → AreKnownOverRun w S first count m → IsMeetOver w S amounts rest (bit_and zeros m.zeros) (bit_and ones m.ones)
+  next_meet left zeros ones first count rest m before run is_rest known = record {
+    left_fits = let less = is_rest.less in let fits = before.left_fits in omega arith;
+    from_amounts = λ t one. before.from_amounts t (is_rest.kept t one);
+    zero_all = λ t i one off on. let parts = parts_on zeros m.zeros i on in elim (digit_cases left t) [
+      | inl seen ↦ before.zero_all t i one seen parts.0
+      | inr here ↦ let at = is_rest.taken t here off in known.zero_all t i at.0 at.1 parts.1
     ];
-    zero_all = λ k i one off known. let parts = parts_on zeros m.zeros i known in elim (cases_eq k t) [
-      | inl same ↦ subst (λ j. bit_at (zeros_of w (S j)) i ≡ 1) (sym same) (ap (λ n. bit_at n i) (sym (best_zeros w (S t) m best)) ∙ parts.1)
-      | inr other ↦ before.zero_all k i one (sym (taken_other left t k other) ∙ off) parts.0
-    ];
-    one_all = λ k i one off known. let parts = parts_on ones m.ones i known in elim (cases_eq k t) [
-      | inl same ↦ subst (λ j. bit_at (ones_of w (S j)) i ≡ 1) (sym same) (ap (λ n. bit_at n i) (sym (best_ones w (S t) m best)) ∙ parts.1)
-      | inr other ↦ before.one_all k i one (sym (taken_other left t k other) ∙ off) parts.0
+    one_all = λ t i one off on. let parts = parts_on ones m.ones i on in elim (digit_cases left t) [
+      | inl seen ↦ before.one_all t i one seen parts.0
+      | inr here ↦ let at = is_rest.taken t here off in known.one_all t i at.0 at.1 parts.1
     ];
     zero_some = λ i below clear. elim (parts_off zeros m.zeros i clear) [
       | inl old ↦ before.zero_some i below old
-      | inr new ↦ (t, before.from_amounts t on, ap (λ n. bit_at n i) (sym (best_zeros w (S t) m best)) ∙ new)
+      | inr new ↦ let t = known.zero_some i below new in (t.0, before.from_amounts t.0 (run.inside t.0 t.1 t.2), t.3)
     ];
     one_some = λ i below clear. elim (parts_off ones m.ones i clear) [
       | inl old ↦ before.one_some i below old
-      | inr new ↦ (t, before.from_amounts t on, ap (λ n. bit_at n i) (sym (best_ones w (S t) m best)) ∙ new)
+      | inr new ↦ let t = known.one_some i below new in (t.0, before.from_amounts t.0 (run.inside t.0 t.1 t.2), t.3)
     ];
   }
 
-  -- the same as the code writes it: p is the amount's bit, n the masks known alike
-  pub first_meet_at : (first p : ℕ) (m : Masks) → bit_at amounts first ≡ 1 → amounts < 2 ^ w → m ≡ best_of w (S first) → p ≡ 2 ^ first →
-      IsMeetOver w S amounts (bit_xor amounts p) m.zeros m.ones
-  first_meet_at first p m on fits best e =
-      subst (λ q. IsMeetOver w S amounts (bit_xor amounts q) m.zeros m.ones) (sym e) (first_meet first m on fits best)
+  -- the same of the masks known alike
+  pub next_meet_at : (left first count rest : ℕ) (old m n : Masks) → IsMeetOver w S amounts left old.zeros old.ones → IsLowestRun w left first count →
+      IsRest left first count rest → AreKnownOverRun w S first count m → n ≡ record { zeros = bit_and old.zeros m.zeros; ones = bit_and old.ones m.ones } →
+      IsMeetOver w S amounts rest n.zeros n.ones
+  next_meet_at left first count rest old m n before run is_rest known alike =
+      subst (λ k. IsMeetOver w S amounts rest k.zeros k.ones) (sym alike) (next_meet left old.zeros old.ones first count rest m before run is_rest known)
 
-  pub next_meet_at : (left t p : ℕ) (old m n : Masks) → IsMeetOver w S amounts left old.zeros old.ones → bit_at left t ≡ 1 →
-      m ≡ best_of w (S t) → p ≡ 2 ^ t → n ≡ record { zeros = bit_and old.zeros m.zeros; ones = bit_and old.ones m.ones } →
-      IsMeetOver w S amounts (bit_xor left p) n.zeros n.ones
-  next_meet_at left t p old m n before on best e alike =
-      subst (λ k. IsMeetOver w S amounts (bit_xor left p) k.zeros k.ones) (sym alike)
-      (subst (λ q. IsMeetOver w S amounts (bit_xor left q) (bit_and old.zeros m.zeros) (bit_and old.ones m.ones)) (sym e)
-      (next_meet left old.zeros old.ones t m before on best))
+  -- what is known of the shift by each amount is known over all of them
+  pub meet_whole : (left : ℕ) (m : Masks) → IsMeetOver w S amounts left m.zeros m.ones →
+      ((t i : ℕ) → bit_at amounts t ≡ 1 → bit_at m.zeros i ≡ 1 → bit_at (zeros_of w (S t)) i ≡ 1) →
+      ((t i : ℕ) → bit_at amounts t ≡ 1 → bit_at m.ones i ≡ 1 → bit_at (ones_of w (S t)) i ≡ 1) → IsMeetOver w S amounts 0 m.zeros m.ones
+  meet_whole left m meet zeros ones = record {
+    left_fits = pow_pos w;
+    from_amounts = λ t one. absurd (let none = bit_at-zero t in omega arith);
+    zero_all = λ t i one off known. zeros t i one known;
+    one_all = λ t i one off known. ones t i one known;
+    zero_some = meet.zero_some;
+    one_some = meet.one_some;
+  }
+
+-- the least amount is seen
+pub record HasSeenLeast (amounts left : ℕ) : Type 0 where
+  pub first : ℕ
+  pub inside : bit_at amounts first ≡ 1
+  pub least : (t : ℕ) → bit_at amounts t ≡ 1 → first ≤ t
+  pub seen : bit_at left first ≡ 0
+
+pub least_seen : (w amounts first count left : ℕ) → IsLowestRun w amounts first count → IsRest amounts first count left → HasSeenLeast amounts left
+least_seen w amounts first count left run rest = let some = run.some in record {
+  first = first;
+  inside = run.inside first (omega arith) (omega arith);
+  least = run.least;
+  seen = rest.clear first (omega arith) (omega arith);
+}
+
+pub still_seen : (amounts left first count rest : ℕ) → HasSeenLeast amounts left → IsRest left first count rest → HasSeenLeast amounts rest
+still_seen amounts left first count rest before is = record {
+  first = before.first;
+  inside = before.inside;
+  least = before.least;
+  seen = elim (digit_cases rest before.first) [
+    | inl off ↦ off
+    | inr on ↦ absurd (let there = is.kept before.first on in let seen = before.seen in omega arith)
+  ];
+}
 
 -- ---- the amounts all seen
 
@@ -232,6 +299,57 @@ lowest_amount w n some fits fits128 =
       inside = lowest.1;
     }
 
--- the bit of an amount, as the code computes it
-pub bit_of_amount : (w n t : ℕ) → IsWidth w → IsAmount w n t → (1 * 2 ^ t) % 2 ^ 128 ≡ 2 ^ t
-bit_of_amount w n t width amount = one_shl t 128 (let a = amount.below in let b = width.most in omega arith)
+-- no amount comes before it
+pub lowest_from : (n t : ℕ) → 0 < n → n < 2 ^ 128 → bit_at n t ≡ 1 → trailing_zeros w128 n ≤ t
+lowest_from n t some fits on = elim (cases_lt t (trailing_zeros w128 n)) [
+  | inl before ↦ absurd (let lowest = bit_at-trailing_zeros w128 n some fits in let none = lowest.2 t before in omega arith)
+  | inr from ↦ from
+]
+
+-- the run of amounts from the least one on
+run_from : (w n : ℕ) → IsWidth w → 0 < n → n < 2 ^ w → n < 2 ^ 128 →
+    IsLowestRun w n (trailing_zeros w128 n) (trailing_ones w128 (n / 2 ^ trailing_zeros w128 n))
+run_from w n width some fits fits128 = record {
+  some = elim (cases_lt 0 count) [
+    | inl more ↦ more
+    | inr none ↦ absurd (let stop = run.stops (let least = width.least in omega arith) in let zero_count : count ≡ 0 = omega arith in
+        let here : bit_at rest 0 ≡ 0 = ap (bit_at rest) (sym zero_count) ∙ stop in let one = amount.inside in let moved = at 0 in let place : first + 0 ≡ first = omega arith in
+        let there : bit_at n (first + 0) ≡ 1 = ap (bit_at n) place ∙ one in omega arith)
+  ];
+  below = elim (cases_lt w (first + count)) [
+    | inl past ↦ absurd (let on = inside w (omega (arith, amount.below)) past in let none = bit_at_above n w w fits (omega arith) in omega arith)
+    | inr fine ↦ fine
+  ];
+  inside = inside;
+  least = λ t on. lowest_from n t some fits128 on;
+}
+  where
+    first : ℕ
+    first = trailing_zeros w128 n
+
+    rest : ℕ
+    rest = n / 2 ^ trailing_zeros w128 n
+
+    count : ℕ
+    count = trailing_ones w128 (n / 2 ^ trailing_zeros w128 n)
+
+    amount : IsAmount w n (trailing_zeros w128 n)
+    amount = lowest_amount w n some fits fits128
+
+    rest_fits : n / 2 ^ trailing_zeros w128 n < 2 ^ w
+    rest_fits = let less = shr_le n (trailing_zeros w128 n) in omega arith
+
+    run : IsOnesRun w (n / 2 ^ trailing_zeros w128 n) (trailing_ones w128 (n / 2 ^ trailing_zeros w128 n))
+    run = ones_run w (n / 2 ^ trailing_zeros w128 n) (trailing_ones w128 (n / 2 ^ trailing_zeros w128 n)) width.most rest_fits refl
+
+    at : (i : ℕ) → bit_at (n / 2 ^ trailing_zeros w128 n) i ≡ bit_at n (trailing_zeros w128 n + i)
+    at i = bit_at_shr n (trailing_zeros w128 n) i
+
+    inside : (t : ℕ) → trailing_zeros w128 n ≤ t → t < trailing_zeros w128 n + trailing_ones w128 (n / 2 ^ trailing_zeros w128 n) → bit_at n t ≡ 1
+    inside t from below =
+        let place : trailing_zeros w128 n + (t - trailing_zeros w128 n) ≡ t = omega arith in
+        ap (bit_at n) (sym place) ∙ sym (at (t - trailing_zeros w128 n)) ∙ run.each (t - trailing_zeros w128 n) (omega arith)
+
+pub lowest_run_is : (w n c : ℕ) → IsWidth w → 0 < n → n < 2 ^ w → n < 2 ^ 128 → c ≡ trailing_ones w128 (n / 2 ^ trailing_zeros w128 n) →
+    IsLowestRun w n (trailing_zeros w128 n) c
+lowest_run_is w n c width some fits fits128 is = subst (IsLowestRun w n (trailing_zeros w128 n)) (sym is) (run_from w n width some fits fits128)

@@ -4,6 +4,9 @@ pub mod Members
 pub mod Moves
 pub mod Places
 pub mod Amounts
+pub mod EndRuns
+pub mod Lasting
+pub mod Doubled
 pub mod Sums
 pub mod Agreements
 pub mod Searching

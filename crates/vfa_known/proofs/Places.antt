@@ -123,10 +123,10 @@ place_of Left w t i = cond (nat_lt i t) w (i - t)
 place_of Logical w t i = t + i
 place_of Arithmetic w t i = min (t + i) (w - 1)
 
-place_below : (w t i : ℕ) → i < t → place_of Left w t i ≡ w
+pub place_below : (w t i : ℕ) → i < t → place_of Left w t i ≡ w
 place_below w t i low = cond-true (nat_lt i t) w (i - t) (lt-ltb i t low)
 
-place_above : (w t i : ℕ) → t ≤ i → place_of Left w t i ≡ i - t
+pub place_above : (w t i : ℕ) → t ≤ i → place_of Left w t i ≡ i - t
 place_above w t i high = cond-false (nat_lt i t) w (i - t) (le-ltb i t high)
 
 module _ (w t : ℕ) (width : IsWidth w) (amount : t < w) where

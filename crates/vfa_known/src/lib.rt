@@ -8,6 +8,7 @@ mod domain;
 mod known;
 mod member;
 mod product;
+mod runs;
 mod shift;
 mod sum;
 
