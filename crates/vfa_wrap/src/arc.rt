@@ -67,7 +67,10 @@ impl<const W: u32> Wrapped<W> {
         requires last_fits { last < 2 ^ W }
         ensures { span_of result ≡ arc_from W first last }
     {
-        Wrapped::reaching(first, steps_up::<W>(first, last))
+        if number_ahead::<W>(last, 1) == first {
+            return Wrapped::everything();
+        }
+        Wrapped { first, last }
     }
 
     /// The first number of the arc, 0 where it is full.
