@@ -3,7 +3,7 @@ use Rattle.std.proofs.Common.{◌≡◌, ◌≢◌, ℕ, zero, suc, lit<, ◌+�
 use Rattle.std.specs.Prelude.{IsTrue, IsSomeAnd, IfSome, MatchOption, nat_le}
 use Rattle.std.specs.Int.{bit_at}
 use Rattle.std.specs.Option.{option_map}
-use Rattle.std.proofs.lemmas.Bool.{cases_Bool, cond-true, cond-false}
+use Rattle.std.proofs.lemmas.Bool.{cases_Bool, cases_eq, cond-true, cond-false}
 use Rattle.std.proofs.lemmas.Bool.Decides.{nat_tests}
 use Rattle.std.proofs.lemmas.Nat.{pow_pos}
 use Rattle.std.proofs.lemmas.Nat.Bits.{bit_at-zero}
@@ -18,7 +18,6 @@ use Rattle.vfa_wrap.specs.Between.{Between}
 use Rattle.vfa_wrap.specs.Ends.{EndsOf, ends_of}
 use Rattle.vfa_wrap.specs.Rows.{AreAmounts, AreDivisors}
 use Rattle.vfa_wrap.proofs.Circle.{full_is_arc, in_full}
-use Rattle.vfa_wrap.proofs.Truth.{untrue}
 use Rattle.vfa_wrap.proofs.SetEnds.{are_amounts, are_divisors, between_ends}
 use Rattle.vfa_fact.specs.declared.numbers.Numbers.{Numbers}
 use Rattle.vfa_fact.specs.Cuts.{AmountsOf, ends_in, amounts_in, divisors_in, amounts_of, divisors_of}
@@ -67,10 +66,10 @@ some_shown show P None holds = holds
 
 -- ---- amounts and divisors
 
-amount_at : (w : ℕ) (S : ℕ → Bool) (t : ℕ) → amounts_in w S t ≡ true → (t < w) × (S t ≡ true)
+pub amount_at : (w : ℕ) (S : ℕ → Bool) (t : ℕ) → amounts_in w S t ≡ true → (t < w) × (S t ≡ true)
 amount_at w S t member = let parts = meet_parts (λ t. nat_lt t w) S t member in (grind (arith, nat_tests, parts), parts.1)
 
-amount_from : (w : ℕ) (S : ℕ → Bool) (t : ℕ) → t < w → S t ≡ true → amounts_in w S t ≡ true
+pub amount_from : (w : ℕ) (S : ℕ → Bool) (t : ℕ) → t < w → S t ≡ true → amounts_in w S t ≡ true
 amount_from w S t below member = meet_from (λ t. nat_lt t w) S t (grind (arith, nat_tests)) member
 
 divisor_at : (S : ℕ → Bool) (y : ℕ) → divisors_in S y ≡ true → (0 < y) × (S y ≡ true)
@@ -145,14 +144,6 @@ module _ (w : ℕ) (S : ℕ → Bool) (one : 1 ≤ w) where
       (sym (ends_some w (amounts_in w S) t fits is))
       (between_ends w (amounts_in w S) t one fits is, amount_bit w S t below member)
 
-  -- the members from 0 up to the greatest number below w are the amounts
-  pub amounts_between : meet (interval 0 (w - 1)) S ≡ amounts_in w S
-  unfolding meet interval
-  amounts_between = fun_ext (λ t. ap (λ b. b && S t) (below_one_more t w one))
-    where
-      below_one_more : (t w : ℕ) → 1 ≤ w → (nat_le 0 t && nat_le t (w - 1)) ≡ nat_lt t w
-      below_one_more t w one = grind (arith, nat_tests)
-
 -- the members from 1 up to the greatest number are the divisors
 pub divisors_between : (w most : ℕ) (S : ℕ → Bool) → most + 1 ≡ 2 ^ w → ((x : ℕ) → S x ≡ true → x < 2 ^ w) → meet (interval 1 most) S ≡ divisors_in S
 unfolding meet interval
@@ -166,6 +157,23 @@ divisors_between w most S top fits = fun_ext (λ y. elim (cases_Bool (S y)) [
 
     without : (a b s : Bool) → s ≡ false → (a && s) ≡ (b && s)
     without a b s e = grind arith
+
+-- where 0 is no member all members are divisors
+pub divisors_whole : (w x : ℕ) (S : ℕ → Bool) → S 0 ≡ false → x < 2 ^ w → S x ≡ true → Some (ends_of w S) ≡ divisors_of w S
+unfolding divisors_of meet
+divisors_whole w x S none fits member = sym (ap (ends_in w) same ∙ ends_some w S x fits member)
+  where
+    without : (y : ℕ) (s : Bool) → s ≡ false → (not (nat_eq y 0) && s) ≡ s
+    without y s e = grind arith
+
+    with_other : (y : ℕ) (s : Bool) → y ≢ 0 → (not (nat_eq y 0) && s) ≡ s
+    with_other y s other = grind (arith, nat_tests)
+
+    same : divisors_in S ≡ S
+    same = fun_ext (λ y. elim (cases_eq y 0) [
+      | inl zero_there ↦ let off : S y ≡ false = ap S zero_there ∙ none in without y (S y) off
+      | inr other ↦ with_other y (S y) other
+    ])
 
 -- ---- a part of a set
 
@@ -275,23 +283,3 @@ module _ (w : ℕ) (T B U : ℕ → Bool) (one : 1 ≤ w) (fits : (x : ℕ) → 
       (unsigned_last s st.0 (λ y is. u.upto y (there y is)))
       (record { fits = fits r rt.0; member = rt.0; first = λ y hy is. signed_before r y (fits r rt.0) hy (λ less. absurd (omega (arith, rt.1))) (λ _ _. u.from y (there y is)) })
       (record { fits = fits s st.0; member = st.0; last = λ y hy is. signed_before y s hy (fits s st.0) (λ less. absurd (let more = (high y (there y is)).1 in omega arith)) (λ _ _. u.upto y (there y is)) })
-
--- the ends of the amounts, as the members from 0 up to k
-module _ (w k : ℕ) (S : ℕ → Bool) (r : Option EndsOf) (one : 1 ≤ w) (is : r ≡ ends_in w (meet (interval 0 k) S)) (last : k ≡ w - 1) where
-  pub amount_ends : r ≡ ends_in w (amounts_in w S)
-  amount_ends = is ∙ ap (λ n. ends_in w (meet (interval 0 n) S)) last ∙ ap (ends_in w) (amounts_between w S one)
-
-  pub amount_ends_fit : (e : EndsOf) → r ≡ Some e → AreAmounts w e
-  amount_ends_fit e some = subst (λ (o : Option EndsOf). IfSome o (AreAmounts w)) (sym amount_ends ∙ some) (amounts_usable w S one)
-
-  amount_lies : (e : EndsOf) → r ≡ Some e → (t : ℕ) → t < w → S t ≡ true → Between w e t
-  amount_lies e some t below member = subst (λ (o : Option EndsOf). IsSomeAnd o (λ e. Between w e t)) (sym amount_ends ∙ some)
-      (ends_cover w (amounts_in w S) t one (below_width w t below) (amount_from w S t below member))
-
-  pub none_under : (e : EndsOf) → r ≡ Some e → (t : ℕ) → t < e.lo → S t ≡ false
-  none_under e some t under = untrue _ (λ member.
-      let fit = amount_ends_fit e some in let order = fit.0.lo.upto in let top = fit.1 in
-      let lies = amount_lies e some t (omega arith) member in let from = lies.from in omega arith)
-
-  pub none_over : (e : EndsOf) → r ≡ Some e → (t : ℕ) → e.hi < t → t < w → S t ≡ false
-  none_over e some t over below = untrue _ (λ member. let lies = amount_lies e some t below member in let upto = lies.upto in omega arith)

@@ -1,15 +1,11 @@
 -- The ends of the members between two numbers, by the members below the middle and those from there on, and their mask.
-use Rattle.std.proofs.Common.{◌≡◌, ℕ, ℤ, ◌+◌, ◌-◌, ◌*◌, ◌%◌, ◌^◌, ◌<◌, ◌≤◌, Bool, true, false, sym, ◌∙◌, ap, subst, refl, arith, ◌⊎◌, inl, inr, min, max, add-one, lit<, bit_or, Option, Some, None}
+use Rattle.std.proofs.Common.{◌≡◌, ℕ, ℤ, ◌-◌, ◌*◌, ◌%◌, ◌^◌, ◌<◌, ◌≤◌, Bool, true, sym, ◌∙◌, subst, arith, ◌⊎◌, inl, inr, min, max, Option, Some, None}
 use Rattle.std.specs.Prelude.{IsTrue, IfSome, MatchOption}
 use Rattle.std.specs.Option.{option_or}
 use Rattle.std.proofs.lemmas.Bool.{cases_lt, true≢false}
-use Rattle.std.proofs.lemmas.Nat.{one_shl, or_disjoint, pow_pos}
-use Rattle.std.proofs.Math.Nat.{pow-le-pow_right}
-use Rattle.std.proofs.lemmas.Nat.Bits.{bit_at-zero, bit_at_above, and_pow}
+use Rattle.std.proofs.lemmas.Nat.{one_shl, pow_pos}
 use Rattle.vfa_word.specs.Numbers.{IsWidth, signed_of}
-use Rattle.vfa_dom.specs.Search.{bits_below, flag}
 use Rattle.vfa_dom.specs.Sets.{meet, is_empty}
-use Rattle.vfa_dom.proofs.Searches.{bits_are, bits_below-lt, bit_at-bits_below, flag-true, flag-false}
 use Rattle.vfa_wrap.specs.Ends.{EndsOf}
 use Rattle.vfa_wrap.proofs.Truth.{untrue}
 use Rattle.vfa_fact.specs.declared.numbers.Numbers.{Numbers}
@@ -99,32 +95,3 @@ or_fact w (Some k) u n one two is = subst (IsFact w) (of_some k n is) one
 pub equal_ends : (lo hi : ℕ) (a b a' b' : ℤ) → a ≡ a' → b ≡ b' →
     ◌≡◌ {A = Option EndsOf} (Some (record { lo = lo; hi = hi; slo = a; shi = b })) (Some (record { lo = lo; hi = hi; slo = a'; shi = b' }))
 equal_ends lo hi a b a' b' ea eb = cc
-
--- ---- the mask of the members below a number
-
-pub no_bits : (n : ℕ) (p : ℕ → Bool) → ((k : ℕ) → k < n → p k ≡ false) → 0 ≡ bits_below n p
-no_bits n p none = bits_are n p 0 (pow_pos n) (λ i below. bit_at-zero i ∙ sym (flag-false (p i) (none i below)))
-
-bits_step : (n : ℕ) (p : ℕ → Bool) → bits_below (n + 1) p ≡ flag (p n) * 2 ^ n + bits_below n p
-unfolding bits_below
-bits_step n p = rw (add-one n) refl
-
-pub bit_out : (n m : ℕ) (p : ℕ → Bool) → m ≡ bits_below n p → p n ≡ false → m ≡ bits_below (n + 1) p
-bit_out n m p same out = let step = bits_step n p in let zero = flag-false (p n) out in same ∙ sym (step ∙ ap (λ f. f * 2 ^ n + bits_below n p) zero ∙ omega arith)
-
-pub bit_in : (n m : ℕ) (p : ℕ → Bool) → n < 128 → m ≡ bits_below n p → p n ≡ true → bit_or m (1 * 2 ^ n % 2 ^ 128) ≡ bits_below (n + 1) p
-bit_in n m p below same member =
-    let small : m < 2 ^ n = subst (λ k. k < 2 ^ n) (sym same) (bits_below-lt n p) in
-    let apart = and_pow m n ∙ ap (λ d. d * 2 ^ n) (bit_at_above m n n small (omega arith)) in
-    ap (bit_or m) (one_shl n 128 below) ∙ or_disjoint m (2 ^ n) (apart ∙ omega arith)
-    ∙ sym (bits_step n p ∙ ap (λ f. f * 2 ^ n + bits_below n p) (flag-true (p n) member) ∙ ap (λ k. 1 * 2 ^ n + k) (sym same) ∙ omega arith)
-
--- no member lies from n up to below w
-pub bits_end : (n w : ℕ) (p : ℕ → Bool) → n ≤ w → ((k : ℕ) → n ≤ k → k < w → p k ≡ false) → bits_below n p ≡ bits_below w p
-bits_end n w p less none =
-    let small = bits_below-lt n p in
-    let power = pow-le-pow_right {n = 2} (lit< tt) less in
-    bits_are w p (bits_below n p) (omega arith) (λ i below. elim (cases_lt i n) [
-      | inl low ↦ bit_at-bits_below n p i low
-      | inr high ↦ bit_at_above (bits_below n p) n i small high ∙ sym (flag-false (p i) (none i high below))
-    ])

@@ -1,5 +1,5 @@
 -- The join of two facts.
-use Rattle.std.proofs.Common.{◌≡◌, ℕ, ◌^◌, ◌<◌, Bool, true, ◌&&◌, sym, ◌∙◌, ap, arith, Some, None}
+use Rattle.std.proofs.Common.{◌≡◌, ℕ, ◌^◌, ◌<◌, true, sym, ◌∙◌, ap, Some, None}
 use Rattle.std.proofs.lemmas.Bool.{true≢false}
 use Rattle.vfa_dom.specs.Sets.{meet}
 use Rattle.vfa_dom.specs.Best.{Masks}
@@ -11,8 +11,8 @@ use Rattle.vfa_fact.specs.declared.numbers.Numbers.{Numbers}
 use Rattle.vfa_fact.specs.Fact.{span_in, in_numbers}
 use Rattle.vfa_fact.specs.Join.{alike, hull_in, join_of}
 use Rattle.vfa_fact.specs.Cells.{in_option}
-use Rattle.vfa_fact.specs.Sharp.{sharp_of, sharp_in}
-use Rattle.vfa_fact.proofs.SharpSets.{sharp_alike, sharp_none_tells}
+use Rattle.vfa_fact.specs.Sharp.{sharp_in}
+use Rattle.vfa_fact.proofs.SharpSets.{sharp_none_tells}
 use Rattle.vfa_fact.proofs.SharpArcs.{sharp_in_has}
 
 -- m and s are the masks and the arc of the join, before they sharpen each other

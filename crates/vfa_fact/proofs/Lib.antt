@@ -4,7 +4,6 @@ pub mod MemberPlaces
 pub mod Deciding
 pub mod FactMembers
 pub mod Partnered
-pub mod FactTests
 pub mod FactPartners
 pub mod Going
 pub mod SharpSets
@@ -13,6 +12,7 @@ pub mod Restricted
 pub mod JoinedCells
 pub mod CellNumbers
 pub mod CutEnds
+pub mod MaskedAmounts
 pub mod HalvedEnds
 pub mod EndsOfCells
 pub mod TwoParts

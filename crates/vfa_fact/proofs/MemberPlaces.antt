@@ -4,13 +4,12 @@ use Rattle.std.proofs.lemmas.Bool.{lt-ltb, cases_lt}
 use Rattle.std.proofs.lemmas.Bool.Decides.{nat_tests}
 use Rattle.vfa_dom.proofs.Searches.{some_found, least_found, greatest_found}
 use Rattle.vfa_dom.proofs.SetSearches.{not_above, not_below}
-use Rattle.vfa_dom.specs.Search.{greatest_below}
+use Rattle.vfa_dom.specs.Search.{least_below, greatest_below}
 use Rattle.std.proofs.Math.Nat.{mod-eq_of_lt, add-mod_right}
 use Rattle.std.proofs.lemmas.Int.{ints}
 use Rattle.vfa_word.specs.Numbers.{wrap}
 use Rattle.vfa_wrap.specs.Arc.{steps}
 use Rattle.vfa_wrap.specs.Places.{in_signed_order, reading_at}
-use Rattle.vfa_wrap.specs.Ends.{ends_of}
 use Rattle.vfa_wrap.proofs.ArcEnds.{half_is, least_alike}
 use Rattle.vfa_wrap.proofs.Circle.{steps_is, steps_back, ahead}
 use Rattle.vfa_fact.specs.Order.{comes_before, first_place, last_place}
@@ -119,21 +118,21 @@ at_zero w S k hk = let e : 0 + k ≡ k = omega arith in ap S (sym (ap (λ (n : �
 at_half : (w : ℕ) (S : ℕ → Bool) (k : ℕ) → S (in_signed_order w k) ≡ S ((2 ^ (w - 1) + k) % 2 ^ w)
 at_half w S k = let e : k + 2 ^ (w - 1) ≡ 2 ^ (w - 1) + k = omega arith in ap (λ (n : ℕ). S (n % 2 ^ w)) e
 
-pub lo_place : (w : ℕ) (S : ℕ → Bool) → (ends_of w S).lo ≡ first_place w 0 S
-unfolding ends_of first_place
-lo_place w S = least_alike (2 ^ w) _ _ (at_zero w S)
+pub least_place : (w : ℕ) (S : ℕ → Bool) → least_below (2 ^ w) S ≡ first_place w 0 S
+unfolding first_place
+least_place w S = least_alike (2 ^ w) _ _ (at_zero w S)
 
-pub hi_place : (w : ℕ) (S : ℕ → Bool) → (ends_of w S).hi ≡ last_place w 0 S
-unfolding ends_of last_place
-hi_place w S = greatest_alike (2 ^ w) _ _ (at_zero w S)
+pub greatest_place : (w : ℕ) (S : ℕ → Bool) → greatest_below (2 ^ w) S ≡ last_place w 0 S
+unfolding last_place
+greatest_place w S = greatest_alike (2 ^ w) _ _ (at_zero w S)
 
-pub slo_place : (w : ℕ) (S : ℕ → Bool) → (ends_of w S).slo ≡ reading_at w (first_place w (2 ^ (w - 1)) S)
-unfolding ends_of first_place
-slo_place w S = ap (reading_at w) (least_alike (2 ^ w) _ _ (λ k hk. at_half w S k))
+pub least_signed_place : (w : ℕ) (S : ℕ → Bool) → reading_at w (least_below (2 ^ w) (λ k. S (in_signed_order w k))) ≡ reading_at w (first_place w (2 ^ (w - 1)) S)
+unfolding first_place
+least_signed_place w S = ap (reading_at w) (least_alike (2 ^ w) _ _ (λ k hk. at_half w S k))
 
-pub shi_place : (w : ℕ) (S : ℕ → Bool) → (ends_of w S).shi ≡ reading_at w (last_place w (2 ^ (w - 1)) S)
-unfolding ends_of last_place
-shi_place w S = ap (reading_at w) (greatest_alike (2 ^ w) _ _ (λ k hk. at_half w S k))
+pub greatest_signed_place : (w : ℕ) (S : ℕ → Bool) → reading_at w (greatest_below (2 ^ w) (λ k. S (in_signed_order w k))) ≡ reading_at w (last_place w (2 ^ (w - 1)) S)
+unfolding last_place
+greatest_signed_place w S = ap (reading_at w) (greatest_alike (2 ^ w) _ _ (λ k hk. at_half w S k))
 
 wrapped_low : (h m k : ℕ) (z : ℤ) → h + h ≡ m → k < h → z ≡ pos k -ℤ pos h → z ≡ negsuc (h - 1 - k)
 wrapped_low h m k (pos n) e l is = absurd (omega (arith, ints))

@@ -3,8 +3,8 @@ ghost use Rattle.std.specs.Int.{bit_at};
 ghost use Rattle.std.specs.Option.{option_map};
 ghost use Rattle.vfa_fact.specs.Cells.{IsCell, in_cell, joined_numbers, joined_cells, decided_cells, compared_cells};
 ghost use Rattle.vfa_fact.specs.CellCuts.{shown_cell_ends, shown_cell_amounts, cell_ends, cell_amounts, cell_divisors};
-ghost use Rattle.vfa_fact.specs.Compare.{satisfies};
-ghost use Rattle.vfa_fact.specs.Fact.{IsFact};
+ghost use Rattle.vfa_fact.specs.Compare.{satisfies, restrict_of};
+ghost use Rattle.vfa_fact.specs.Fact.{IsFact, in_numbers};
 ghost use Rattle.vfa_fact.specs.Join.{join_of};
 ghost use Rattle.vfa_word.specs.Numbers.{IsWidth};
 ghost use Rattle.vfa_wrap.specs.Between.{Between, AreEnds};
@@ -71,20 +71,43 @@ fn decide_at<const W: u32>(pred: Pred, a: &Cell, b: &Cell) -> Option<bool>
     Fact::decide(pred, &one, &two)
 }
 
-/// What the comparison leaves of the first of two cells of width `W`.
-fn compare_at<const W: u32>(pred: Pred, a: &Cell, b: &Cell) -> Option<Cell>
-    requires left { a.now.width ≡ W }
-    requires right { b.now.width ≡ W }
+/// The numbers that the comparison leaves of the first of two facts of width `W`.
+fn restrict_at<const W: u32>(pred: Pred, a: &Numbers, b: &Numbers) -> Option<Numbers>
+    requires width { IsWidth W }
+    requires left { IsFact W a.now }
+    requires right { IsFact W b.now }
+    ensures { result ≡ restrict_of W pred a.now (in_numbers W b.now) }
+{
+    Fact::<W>::from_numbers(a).restricted(pred, &Fact::from_numbers(b))
+}
+
+/// The numbers that the comparison leaves of the first of two facts of one width.
+fn restricted_numbers(width: u32, pred: Pred, a: &Numbers, b: &Numbers) -> Option<Numbers>
+    requires width { IsWidth width }
+    requires left { IsFact width a.now }
+    requires right { IsFact width b.now }
+    ensures { result ≡ restrict_of width pred a.now (in_numbers width b.now) }
+{
+    at_width!(width, restrict_at, (pred, a, b))
+}
+
+/// What the comparison leaves of the first of two cells of one width.
+fn compared(pred: Pred, a: &Cell, b: &Cell) -> Option<Cell>
+    requires { a.now.width ≡ b.now.width }
     ensures { result ≡ compared_cells pred a.now b.now }
 {
-    let Some(one) = a.typed::<W>() else {
+    let Some(one) = &a.numbers else {
         return None;
     };
-    let Some(two) = b.typed::<W>() else {
+    let Some(two) = &b.numbers else {
         return None;
     };
-    match one.restrict(pred, &two) {
-        Some(kept) => Some(Cell::of(&kept, true)),
+    match restricted_numbers(a.width, pred, one, two) {
+        Some(numbers) => Some(Cell {
+            width: a.width,
+            numbers: Some(numbers),
+            never_poison: true,
+        }),
         None => None,
     }
 }
@@ -131,16 +154,6 @@ fn divisors_at<const W: u32>(a: &Cell) -> Option<CellEnds>
 {
     let ends = a.typed::<W>()?.divisors()?;
     Some(ends_of_cell(&ends))
-}
-
-/// What the comparison leaves of the first of two cells of one width.
-fn compared(width: u32, pred: Pred, a: &Cell, b: &Cell) -> Option<Cell>
-    requires width { IsWidth width }
-    requires left { a.now.width ≡ width }
-    requires right { b.now.width ≡ width }
-    ensures { result ≡ compared_cells pred a.now b.now }
-{
-    at_width!(width, compare_at, (pred, a, b))
 }
 
 /// The ends of the numbers of a cell.
@@ -215,7 +228,8 @@ impl Cell {
         ensures keeps { (x y : ℕ) → IsTrue (in_cell self.now x) → IsTrue (in_cell other.now y) →
             IsTrue (satisfies self.now.width pred x y) → IsSomeAnd result (λ rest. IsTrue (in_cell rest x)) }
     {
-        compared(self.width, pred, self, other)
+        let _ = &self.numbers;
+        compared(pred, self, other)
     }
 
     /// The least and greatest numbers of the cell, and the least and greatest signed readings of its numbers; None

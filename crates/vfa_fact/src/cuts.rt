@@ -1,20 +1,23 @@
-ghost use Rattle.std.specs.Prelude.{◌≡◌, ◌≢◌, ℕ, ◌-◌, ◌<◌, ◌≤◌, ◌^◌, false, IsTrue, IsSomeAnd, IfSome, MatchOption};
+ghost use Rattle.std.specs.Prelude.{◌≡◌, ◌≢◌, ℕ, ◌<◌, ◌^◌, Bool, Some, IsTrue, IsSomeAnd, IfSome, MatchOption};
 ghost use Rattle.std.specs.Int.{bit_at};
 ghost use Rattle.std.specs.Option.{option_map};
 ghost use Rattle.vfa_dom.specs.Search.{bits_below};
 ghost use Rattle.vfa_dom.specs.Sets.{meet, is_empty};
-ghost use Rattle.vfa_fact.specs.Cuts.{ends_in, amounts_of, divisors_of, shown_amounts};
+ghost use Rattle.vfa_fact.specs.Cuts.{ends_in, amounts_in, amounts_of, divisors_of, shown_amounts};
 ghost use Rattle.vfa_fact.specs.Fact.{IsFact};
 ghost use Rattle.vfa_fact.specs.Interval.{interval, part_of, Reaches};
 ghost use Rattle.vfa_fact.specs.Views.{in_fact};
+ghost use Rattle.vfa_word.specs.Numbers.{IsWidth};
 ghost use Rattle.vfa_wrap.specs.Between.{Between};
 ghost use Rattle.vfa_wrap.specs.Ends.{shown_ends};
 ghost use Rattle.vfa_wrap.specs.Rows.{AreAmounts, AreDivisors};
 
-use crate::{Fact, Numbers, Test};
+use crate::amount_masks::{amounts_in_arc, amounts_in_cube};
+use crate::sharp::between_in;
+use crate::{Fact, Numbers};
 use vfa_dom::{Domain, SetOf};
 use vfa_word::{Word, most};
-use vfa_wrap::{Ends, Wrapped};
+use vfa_wrap::Ends;
 
 /// Numbers below the width by which a shift is possible.
 #[derive(Clone, Copy)]
@@ -23,6 +26,23 @@ pub struct Amounts<const W: u32> {
     pub mask: u128,
     /// The least and greatest amounts, and the least and greatest signed readings, which are the same.
     pub ends: Ends<W>,
+}
+
+/// The ends of the amounts that the mask says, which are so small that their signed readings are the same numbers.
+fn amount_ends<const W: u32>(mask: u128) -> Ends<W>
+    requires width { IsWidth W }
+    requires some { mask ≢ 0 }
+    requires fits { mask < 2 ^ W }
+    ensures { (S : ℕ → Bool) → mask ≡ bits_below W S → Some (shown_ends result) ≡ ends_in W (amounts_in W S) }
+{
+    let least = mask.trailing_zeros();
+    let greatest = mask.ilog2();
+    Ends {
+        lo: u128::from(least),
+        hi: u128::from(greatest),
+        slo: i128::from(least),
+        shi: i128::from(greatest),
+    }
 }
 
 impl<const W: u32> Fact<W> {
@@ -39,12 +59,7 @@ impl<const W: u32> Fact<W> {
             (IsTrue (is_empty W (meet (interval low high) (in_fact W self.now))))
             (λ n. Reaches (meet (interval low high) (in_fact W self.now)) n.first n.last) }
     {
-        let test = Test {
-            cube: self.known,
-            one: self.arc,
-            two: self.arc,
-        };
-        test.in_one(low, high)
+        between_in(&self.known, &self.arc, low, high)
     }
 
     /// The ends of the members from `low` up to `high`; None exactly where no member lies there.
@@ -67,23 +82,6 @@ impl<const W: u32> Fact<W> {
         })
     }
 
-    /// The mask of the members from `low` up to `high`, below which and above which no member is an amount.
-    fn mask_between(&self, low: u32, high: u32) -> u128
-        requires order { low ≤ high }
-        requires below { high < W }
-        requires none_below { (t : ℕ) → t < low → in_fact W self.now t ≡ false }
-        requires none_above { (t : ℕ) → high < t → t < W → in_fact W self.now t ≡ false }
-        ensures { result ≡ bits_below W (in_fact W self.now) }
-    {
-        let mut mask = 0;
-        for amount in low..high + 1 {
-            if self.has(Word::cut(u128::from(amount))) {
-                mask |= 1 << amount;
-            }
-        }
-        mask
-    }
-
     /// The members below the width, which are the amounts by which a shift is possible; None exactly where there is none.
     ///
     /// At width 6, of the arc from 3 up to 1 they are 0, 1, 3, 4 and 5, with the mask `111011`.
@@ -95,8 +93,11 @@ impl<const W: u32> Fact<W> {
         ensures covers { (t : ℕ) → t < W → IsTrue (in_fact W self.now t) →
             IsSomeAnd result (λ a. Between W (shown_ends a.ends) t × (bit_at a.mask t ≡ 1)) }
     {
-        let ends = self.ends_between(0, u128::from(W - 1))?;
-        let mask = self.mask_between(ends.lo as u32, ends.hi as u32);
+        let mask = amounts_in_cube(&self.known) & amounts_in_arc(&self.arc);
+        if mask == 0 {
+            return None;
+        }
+        let ends = amount_ends(mask);
         Some(Amounts { mask, ends })
     }
 
@@ -108,6 +109,9 @@ impl<const W: u32> Fact<W> {
         ensures usable { IfSome result (λ e. AreDivisors W (shown_ends e)) }
         ensures covers { (y : ℕ) → y ≢ 0 → IsTrue (in_fact W self.now y) → IsSomeAnd result (λ e. Between W (shown_ends e) y) }
     {
+        if !self.has(Word::cut(0)) {
+            return Some(self.ends());
+        }
         self.ends_between(1, most::<W>())
     }
 }

@@ -6,8 +6,7 @@ ghost use Rattle.vfa_fact.specs.Order.{base_of, comes_before, relates};
 ghost use Rattle.vfa_fact.specs.Views.{in_fact};
 
 use crate::Fact;
-use crate::order::{Order, Relation, places_of, relation_of};
-use crate::partners::test_of_fact;
+use crate::order::{Order, Relation, first_place_of, last_place_of, relation_of};
 use vfa_dom::Domain;
 use vfa_ir::Pred;
 
@@ -15,12 +14,14 @@ use vfa_ir::Pred;
 fn precedes<const W: u32>(order: Order, a: &Fact<W>, b: &Fact<W>) -> Option<bool>
     ensures { result ≡ decided W (comes_before W (base_of W order)) (in_fact W a.now) (in_fact W b.now) }
 {
-    let one = places_of(a, order);
-    let two = places_of(b, order);
-    if one.last < two.first {
+    let last_of_a = last_place_of(a, order);
+    let first_of_b = first_place_of(b, order);
+    if last_of_a < first_of_b {
         return Some(true);
     }
-    if two.last <= one.first {
+    let first_of_a = first_place_of(a, order);
+    let last_of_b = last_place_of(b, order);
+    if last_of_b <= first_of_a {
         return Some(false);
     }
     None
@@ -30,7 +31,7 @@ fn precedes<const W: u32>(order: Order, a: &Fact<W>, b: &Fact<W>) -> Option<bool
 fn meet<const W: u32>(a: &Fact<W>, b: &Fact<W>) -> bool
     ensures { result ≡ meets W (in_fact W a.now) (in_fact W b.now) }
 {
-    Fact::sharp(a.known(), a.arc(), &test_of_fact(b)).is_some()
+    a.common(b).is_some()
 }
 
 /// The one answer of "is the same as" over all pairs; None where there is none.

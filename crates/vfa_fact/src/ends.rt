@@ -15,7 +15,7 @@ impl<const W: u32> Fact<W> {
     ghost use Rattle.vfa_fact.specs.Views.{numbers_of, in_fact};
 
     /// The least member.
-    fn least(&self) -> u128
+    pub(crate) fn least(&self) -> u128
         ensures { result ≡ least_below (2 ^ W) (in_fact W self.now) }
     {
         let first = self.arc.first().bits();
@@ -26,7 +26,7 @@ impl<const W: u32> Fact<W> {
     }
 
     /// The greatest member.
-    fn greatest(&self) -> u128
+    pub(crate) fn greatest(&self) -> u128
         ensures { result ≡ greatest_below (2 ^ W) (in_fact W self.now) }
     {
         let last = self.arc.last().bits();
@@ -57,7 +57,7 @@ impl<const W: u32> Fact<W> {
     }
 
     /// The least signed reading of a member.
-    fn least_signed(&self) -> i128
+    pub(crate) fn least_signed(&self) -> i128
         ensures { result ≡ reading_at W (least_below (2 ^ W) (λ k. in_fact W self.now (in_signed_order W k))) }
     {
         let first = self.arc.first().signed();
@@ -68,7 +68,7 @@ impl<const W: u32> Fact<W> {
     }
 
     /// The greatest signed reading of a member.
-    fn greatest_signed(&self) -> i128
+    pub(crate) fn greatest_signed(&self) -> i128
         ensures { result ≡ reading_at W (greatest_below (2 ^ W) (λ k. in_fact W self.now (in_signed_order W k))) }
     {
         let last = self.arc.last().signed();

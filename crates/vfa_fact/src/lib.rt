@@ -1,6 +1,7 @@
 //! Facts on numbers of a width of 1 to 128 bits: known bits and an arc together, each sharpened by the other.
 #![tactic(auto)]
 
+mod amount_masks;
 mod cell;
 mod cell_calls;
 mod cell_values;

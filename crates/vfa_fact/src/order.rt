@@ -53,15 +53,6 @@ pub(crate) fn relation_of(pred: Pred) -> Relation
     }
 }
 
-/// Where the members of a fact stand in an order: how many steps up from the number that comes first.
-#[derive(Clone, Copy)]
-pub(crate) struct Places {
-    /// The place of the first member.
-    pub(crate) first: u128,
-    /// The place of the last member.
-    pub(crate) last: u128,
-}
-
 /// How many steps up from the least signed value a signed reading stands.
 fn signed_place<const W: u32>(reading: i128) -> u128
     requires { IsWidth W }
@@ -73,23 +64,26 @@ fn signed_place<const W: u32>(reading: i128) -> u128
         .bits()
 }
 
-/// Where the members of the fact stand in the order.
-pub(crate) fn places_of<const W: u32>(fact: &Fact<W>, order: Order) -> Places
-    ensures first { result.first ≡ first_place W (base_of W order) (in_fact W fact.now) }
-    ensures last { result.last ≡ last_place W (base_of W order) (in_fact W fact.now) }
-    ensures first_fits { result.first < 2 ^ W }
-    ensures last_fits { result.last < 2 ^ W }
+/// How many steps up from the number that comes first in the order the first member of the fact stands.
+pub(crate) fn first_place_of<const W: u32>(fact: &Fact<W>, order: Order) -> u128
+    ensures place { result ≡ first_place W (base_of W order) (in_fact W fact.now) }
+    ensures fits { result < 2 ^ W }
     ensures width { IsWidth W }
 {
-    let ends = fact.ends();
     match order {
-        Order::Unsigned => Places {
-            first: ends.lo,
-            last: ends.hi,
-        },
-        Order::Signed => Places {
-            first: signed_place::<W>(ends.slo),
-            last: signed_place::<W>(ends.shi),
-        },
+        Order::Unsigned => fact.least(),
+        Order::Signed => signed_place::<W>(fact.least_signed()),
+    }
+}
+
+/// How many steps up from the number that comes first in the order the last member of the fact stands.
+pub(crate) fn last_place_of<const W: u32>(fact: &Fact<W>, order: Order) -> u128
+    ensures place { result ≡ last_place W (base_of W order) (in_fact W fact.now) }
+    ensures fits { result < 2 ^ W }
+    ensures width { IsWidth W }
+{
+    match order {
+        Order::Unsigned => fact.greatest(),
+        Order::Signed => signed_place::<W>(fact.greatest_signed()),
     }
 }

@@ -1,14 +1,14 @@
 ghost use Rattle.std.specs.Prelude.{◌≡◌, ℕ, ◌<◌, ◌≤◌, ◌^◌, nat_eq, nat_le, not, MatchOption, IsTrue};
 ghost use Rattle.vfa_dom.specs.Sets.{is_empty};
 ghost use Rattle.vfa_fact.specs.Compare.{Agree, partners};
-ghost use Rattle.vfa_fact.specs.Order.{base_of, comes_before, relates};
-ghost use Rattle.vfa_fact.specs.Views.{in_fact, in_test};
+ghost use Rattle.vfa_fact.specs.Order.{base_of, comes_before};
+ghost use Rattle.vfa_fact.specs.Views.{in_fact};
 ghost use Rattle.vfa_word.specs.Numbers.{IsWidth};
 ghost use Rattle.vfa_wrap.specs.Arc.{steps};
 ghost use Rattle.vfa_wrap.specs.Wrapped.{in_arc};
 
-use crate::order::{Order, Relation, places_of};
-use crate::{Fact, Test};
+use crate::Fact;
+use crate::order::{Order, first_place_of, last_place_of};
 use vfa_dom::Domain;
 use vfa_word::{Word, most};
 use vfa_wrap::Wrapped;
@@ -51,79 +51,53 @@ fn from_on<const W: u32>(base: u128, place: u128) -> Wrapped<W>
 }
 
 /// The arc of the numbers that come before some member; None exactly where there is none.
-fn arc_before<const W: u32>(order: Order, fact: &Fact<W>) -> Option<Wrapped<W>>
+pub(crate) fn arc_before<const W: u32>(order: Order, fact: &Fact<W>) -> Option<Wrapped<W>>
     ensures { let test = comes_before W (base_of W order) in
         MatchOption result (IsTrue (is_empty W (partners W test (in_fact W fact.now))))
         (λ arc. Agree W (in_arc W arc) (partners W test (in_fact W fact.now))) }
 {
-    let places = places_of(fact, order);
-    if places.last == 0 {
+    let last = last_place_of(fact, order);
+    if last == 0 {
         return None;
     }
-    Some(up_to(base::<W>(order), places.last - 1))
+    Some(up_to(base::<W>(order), last - 1))
 }
 
 /// The arc of the numbers that come before some member or are one.
-fn arc_up_to<const W: u32>(order: Order, fact: &Fact<W>) -> Wrapped<W>
+pub(crate) fn arc_up_to<const W: u32>(order: Order, fact: &Fact<W>) -> Wrapped<W>
     ensures { Agree W (in_arc W result) (partners W (λ x y. not (comes_before W (base_of W order) y x)) (in_fact W fact.now)) }
 {
-    let places = places_of(fact, order);
-    up_to(base::<W>(order), places.last)
+    let last = last_place_of(fact, order);
+    up_to(base::<W>(order), last)
 }
 
 /// The arc of the numbers that come after some member; None exactly where there is none.
-fn arc_after<const W: u32>(order: Order, fact: &Fact<W>) -> Option<Wrapped<W>>
+pub(crate) fn arc_after<const W: u32>(order: Order, fact: &Fact<W>) -> Option<Wrapped<W>>
     ensures { let test = λ (x y : ℕ). comes_before W (base_of W order) y x in
         MatchOption result (IsTrue (is_empty W (partners W test (in_fact W fact.now))))
         (λ arc. Agree W (in_arc W arc) (partners W test (in_fact W fact.now))) }
 {
-    let places = places_of(fact, order);
-    if places.first == most::<W>() {
+    let first = first_place_of(fact, order);
+    if first == most::<W>() {
         return None;
     }
-    Some(from_on(base::<W>(order), places.first + 1))
+    Some(from_on(base::<W>(order), first + 1))
 }
 
 /// The arc of the numbers that come after some member or are one.
-fn arc_from<const W: u32>(order: Order, fact: &Fact<W>) -> Wrapped<W>
+pub(crate) fn arc_from<const W: u32>(order: Order, fact: &Fact<W>) -> Wrapped<W>
     ensures { Agree W (in_arc W result) (partners W (λ x y. not (comes_before W (base_of W order) x y)) (in_fact W fact.now)) }
 {
-    let places = places_of(fact, order);
-    from_on(base::<W>(order), places.first)
+    let first = first_place_of(fact, order);
+    from_on(base::<W>(order), first)
 }
 
 /// The arc of the numbers that differ from some member: all but the only one, where there is only one.
-fn arc_unequal<const W: u32>(fact: &Fact<W>) -> Wrapped<W>
+pub(crate) fn arc_unequal<const W: u32>(fact: &Fact<W>) -> Wrapped<W>
     ensures { Agree W (in_arc W result) (partners W (λ x y. not (nat_eq x y)) (in_fact W fact.now)) }
 {
     match fact.single() {
         Some(only) => from_on(only.bits(), 1),
         None => Wrapped::any(),
-    }
-}
-
-/// The test for the members of the fact.
-pub(crate) fn test_of_fact<const W: u32>(fact: &Fact<W>) -> Test<W>
-    ensures { Agree W (in_test W result) (in_fact W fact.now) }
-{
-    Test {
-        cube: fact.known(),
-        one: fact.arc(),
-        two: fact.arc(),
-    }
-}
-
-/// The test for the numbers that stand in the relation to some member of the fact; None exactly where there is none.
-pub(crate) fn test_for<const W: u32>(relation: Relation, fact: &Fact<W>) -> Option<Test<W>>
-    ensures { MatchOption result (IsTrue (is_empty W (partners W (relates W relation) (in_fact W fact.now))))
-        (λ test. Agree W (in_test W test) (partners W (relates W relation) (in_fact W fact.now))) }
-{
-    match relation {
-        Relation::Equal => Some(test_of_fact(fact)),
-        Relation::Unequal => Some(Test::inside(arc_unequal(fact))),
-        Relation::Before(order) => Some(Test::inside(arc_before(order, fact)?)),
-        Relation::UpTo(order) => Some(Test::inside(arc_up_to(order, fact))),
-        Relation::After(order) => Some(Test::inside(arc_after(order, fact)?)),
-        Relation::From(order) => Some(Test::inside(arc_from(order, fact))),
     }
 }

@@ -7,7 +7,7 @@ ghost use Rattle.vfa_fact.specs.Sharp.{sharp_in};
 ghost use Rattle.vfa_fact.specs.Views.{numbers_of};
 ghost use Rattle.vfa_known.specs.Known.{in_known};
 ghost use Rattle.vfa_word.specs.Numbers.{IsWidth};
-ghost use Rattle.vfa_wrap.specs.Wrapped.{span_of};
+ghost use Rattle.vfa_wrap.specs.Wrapped.{span_of, in_arc};
 
 use crate::fact::Fact;
 use crate::numbers::Numbers;
@@ -76,31 +76,52 @@ pub(crate) fn sharpened<const W: u32>(cube: &Known<W>, arc: &Wrapped<W>) -> Opti
     Some(Fact::from_numbers(&numbers))
 }
 
+/// The sharp numbers from `low` up to `high` that agree with the known bits and lie in the arc.
+pub(crate) fn between_in<const W: u32>(
+    cube: &Known<W>,
+    arc: &Wrapped<W>,
+    low: u128,
+    high: u128,
+) -> Option<Numbers>
+    requires low_fits { low < 2 ^ W }
+    requires high_fits { high < 2 ^ W }
+    requires width { IsWidth W }
+    ensures { result ≡ part_of W low high (meet (in_arc W arc.now) (in_known W cube.now)) }
+{
+    let first = arc.first().bits();
+    let last = arc.last().bits();
+    let from = low.max(first);
+    let upto = high.min(last);
+    if first <= last {
+        return between(cube, from, upto);
+    }
+    both_parts(between(cube, low, upto), between(cube, from, high))
+}
+
+/// The sharp numbers of the arc `within` that agree with the known bits and lie in the other arc.
+pub(crate) fn numbers_in_both<const W: u32>(
+    cube: &Known<W>,
+    arc: &Wrapped<W>,
+    within: &Wrapped<W>,
+) -> Option<Numbers>
+    ensures { result ≡ sharp_in W (span_of within.now) (meet (in_arc W arc.now) (in_known W cube.now)) }
+{
+    let first = within.first().bits();
+    let last = within.last().bits();
+    if first <= last {
+        return between_in(cube, arc, first, last);
+    }
+    both_parts(
+        between_in(cube, arc, first, most::<W>()),
+        between_in(cube, arc, 0, last),
+    )
+}
+
 impl<const W: u32> Test<W> {
     ghost use Rattle.vfa_known.specs.Known.{in_known};
     ghost use Rattle.vfa_wrap.specs.Wrapped.{span_of, in_arc};
 
-    /// The same of the numbers that are in the arc `one` too.
-    pub(crate) fn in_one(&self, low: u128, high: u128) -> Option<Numbers>
-        requires low_fits { low < 2 ^ W }
-        requires high_fits { high < 2 ^ W }
-        requires width { IsWidth W }
-        ensures { result ≡ part_of W low high (meet (in_arc W self.now.one) (in_known W self.now.cube)) }
-    {
-        let first = self.one.first().bits();
-        let last = self.one.last().bits();
-        let from = low.max(first);
-        let upto = high.min(last);
-        if first <= last {
-            return between(&self.cube, from, upto);
-        }
-        both_parts(
-            between(&self.cube, low, upto),
-            between(&self.cube, from, high),
-        )
-    }
-
-    /// The same of the numbers that are in both arcs too.
+    /// The sharp numbers from `low` up to `high` that pass the test.
     fn in_two(&self, low: u128, high: u128) -> Option<Numbers>
         requires low_fits { low < 2 ^ W }
         requires high_fits { high < 2 ^ W }
@@ -113,9 +134,12 @@ impl<const W: u32> Test<W> {
         let from = low.max(first);
         let upto = high.min(last);
         if first <= last {
-            return self.in_one(from, upto);
+            return between_in(&self.cube, &self.one, from, upto);
         }
-        both_parts(self.in_one(low, upto), self.in_one(from, high))
+        both_parts(
+            between_in(&self.cube, &self.one, low, upto),
+            between_in(&self.cube, &self.one, from, high),
+        )
     }
 
     /// The sharp numbers of the arc's numbers that pass the test.

@@ -1,8 +1,6 @@
-ghost use Rattle.std.specs.Prelude.{◌≡◌, ℕ, ◌<◌, ◌^◌, true, IsTrue};
-ghost use Rattle.std.specs.Bool.{OnTrue};
+ghost use Rattle.std.specs.Prelude.{◌≡◌, ℕ, ◌<◌, ◌^◌, true};
 ghost use Rattle.vfa_word.specs.Numbers.{IsWidth};
 
-use crate::fact::Fact;
 use vfa_dom::Domain;
 use vfa_known::Known;
 use vfa_wrap::Wrapped;
@@ -19,7 +17,7 @@ pub struct Test<const W: u32> {
 }
 
 impl<const W: u32> Test<W> {
-    ghost use Rattle.vfa_fact.specs.Views.{in_test, in_fact};
+    ghost use Rattle.vfa_fact.specs.Views.{in_test};
     ghost use Rattle.vfa_wrap.specs.Wrapped.{in_arc};
 
     /// The condition that each number meets.
@@ -43,18 +41,5 @@ impl<const W: u32> Test<W> {
             one: arc,
             two: Wrapped::any(),
         }
-    }
-
-    /// Whether the test keeps the whole fact, seen by its masks and its arcs: a yes means that each member passes.
-    pub(crate) fn keeps(&self, fact: &Fact<W>) -> bool
-        ensures { OnTrue result ((x : ℕ) → IsTrue (in_fact W fact.now x) → IsTrue (in_test W self.now x)) }
-    {
-        if !self.cube.includes(&fact.known()) {
-            return false;
-        }
-        if !self.one.includes(&fact.arc()) {
-            return false;
-        }
-        self.two.includes(&fact.arc())
     }
 }

@@ -1,5 +1,4 @@
-use Rattle.std.proofs.Common.{◌≡◌, ◌∙◌, ap, subst, sym, Option, Some, rules, arith}
-use Rattle.vfa_fact.specs.declared.numbers.Numbers.{Numbers}
+use Rattle.std.proofs.Common.{◌≡◌, ◌∙◌, ap, subst, sym, rules, arith}
 use Rattle.vfa_fact.specs.Cells.{CellValue, joined_numbers}
 use Rattle.vfa_fact.specs.Fact.{IsFact}
 use Rattle.vfa_fact.proofs.JoinedCells.{both_again}

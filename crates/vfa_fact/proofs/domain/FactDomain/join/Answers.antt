@@ -3,7 +3,7 @@ use Rattle.std.specs.Option.{option_map}
 use Rattle.vfa_known.specs.Known.{masks_of}
 use Rattle.vfa_wrap.specs.Wrapped.{span_of}
 use Rattle.vfa_fact.specs.Fact.{in_numbers_fits}
-use Rattle.vfa_fact.specs.Views.{numbers_of, in_test}
+use Rattle.vfa_fact.specs.Views.{numbers_of}
 use Rattle.vfa_fact.proofs.Facts.{numbers_parts}
 use Rattle.vfa_fact.proofs.Joins.{joined_is, some_joined, joined_has, hull_left, hull_right}
 use Rattle.vfa_fact.proofs.domain.FactDomain.join.Goals as goal

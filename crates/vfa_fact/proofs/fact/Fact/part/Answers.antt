@@ -22,15 +22,15 @@ part_again w low high n = sharp_alike w 0 (meet (interval low high) (meet (in_sp
     (pow_pos w) (λ x fits. swapped (interval low high x) (in_span w (span_in n) x) (in_masks w (masks_in n) x))
 
 pub returns-clause-exact : goal.returns-clause-exact
-returns-clause-exact g c = c.in_one.ensures ∙ part_again g.row.W c.args.low c.args.high (numbers_of c.args.self.now)
+returns-clause-exact g c = c.between_in.ensures ∙ part_again g.row.W c.args.low c.args.high (numbers_of c.args.self.now)
 
 pub returns-clause-fact : goal.returns-clause-fact
 returns-clause-fact g c =
-    part_fact g.row.W (meet (interval c.args.low c.args.high) (in_fact g.row.W c.args.self.now)) c.in_one.result (returns-clause-exact g c)
+    part_fact g.row.W (meet (interval c.args.low c.args.high) (in_fact g.row.W c.args.self.now)) c.between_in.result (returns-clause-exact g c)
 
 pub returns-clause-ends : goal.returns-clause-ends
 returns-clause-ends g c =
     let fact = c.args.self.now in
-    part_reaches g.row.W (meet (interval c.args.low c.args.high) (in_fact g.row.W fact)) c.in_one.result
+    part_reaches g.row.W (meet (interval c.args.low c.args.high) (in_fact g.row.W fact)) c.between_in.result
     (λ x member. in_numbers_fits g.row.W (numbers_of fact) x ((meet_parts (interval c.args.low c.args.high) (in_fact g.row.W fact) x member).1))
     (returns-clause-exact g c)

@@ -7,13 +7,13 @@ use Rattle.vfa_fact.proofs.test.Test.in_two.Goals as goal
 
 pub returns-then-first-last : goal.returns-then-first-last
 returns-then-first-last g c = let test = c.args.self.now in
-    c.in_one.ensures
+    c.between_in.ensures
     ∙ cut_plain_at g.row.W c.args.low c.args.high (span_of test.two) (meet (in_arc g.row.W test.one) (in_known g.row.W test.cube)) test.two.arc c.max-from.result c.min-upto.result c.bits-first.result c.bits-last.result
     (c.bits-first.ensures.value ∙ c.first.ensures) (c.bits-last.ensures.value ∙ c.last.ensures) (omega arith) c.max-from.ensures c.min-upto.ensures
 
 pub returns : goal.returns
 returns g c = let test = c.args.self.now in
     cut_split_at g.row.W c.args.low c.args.high (span_of test.two) (meet (in_arc g.row.W test.one) (in_known g.row.W test.cube)) test.two.arc c.max-from.result c.min-upto.result c.bits-first.result c.bits-last.result
-    c.in_one-2.result c.in_one-3.result c.both_parts.result
+    c.between_in-2.result c.between_in-3.result c.both_parts.result
     (c.bits-first.ensures.value ∙ c.first.ensures) (c.bits-last.ensures.value ∙ c.last.ensures) (omega arith) c.max-from.ensures c.min-upto.ensures
-    c.in_one-2.ensures c.in_one-3.ensures c.both_parts.ensures
+    c.between_in-2.ensures c.between_in-3.ensures c.both_parts.ensures
