@@ -9,7 +9,7 @@ mod GeneratedOneByOne
 mod GeneratedPrinted
 mod GeneratedStates
 mod InsideChecked
-mod JobTexts
+mod MadeItems
 mod MissedWalks
 mod NameSets
 mod NamedItems
@@ -17,7 +17,8 @@ mod NarrowedNumbers
 mod OneOptimised
 mod OptimisedNumbers
 mod ReasonLines
+mod ShareCounts
 mod Subjects
 mod ToldAnswers
-mod WorkLists
 mod Working
+mod WrittenModules

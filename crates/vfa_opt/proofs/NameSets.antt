@@ -1,12 +1,12 @@
 -- Sets of names, seen by the bytes of their keys, and the first name that stands twice.
-use Rattle.std.proofs.Common.{◌≡◌, ◌<◌, ◌≤◌, ◌+◌, ◌||◌, ℕ, Bool, true, false, if◌then◌else◌, Option, Some, None, List, [], ◌∷◌, ◌++◌, map, length, drop, get_or, refl, sym, ap, ◌∙◌, bytes_eq}
-use Rattle.std.specs.List.{list_any, cons_option}
-use Rattle.std.proofs.lemmas.List.{at_drop_more, drop_all}
+use Rattle.std.proofs.Common.{◌≡◌, ◌<◌, ◌+◌, ◌||◌, ℕ, Bool, true, false, if◌then◌else◌, Option, Some, List, [], ◌∷◌, ◌++◌, map, length, drop, get_or, refl, sym, ap, ◌∙◌, bytes_eq}
+use Rattle.std.specs.List.{list_any}
+use Rattle.std.proofs.lemmas.List.{at_drop_more}
 use Rattle.indexmap.specs.IndexSet.{insert_key}
 use Rattle.vfa_ir.specs.Words.{is_among}
 use Rattle.vfa_ir.specs.DefinedNames.{first_repeated}
-use Rattle.vfa_opt.specs.declared.work.Worked.{Worked}
-use Rattle.vfa_opt.specs.Works.{worked_name, names_in}
+use Rattle.vfa_opt.specs.declared.portions.Accepted.{Accepted}
+use Rattle.vfa_opt.specs.Works.{names_of}
 
 -- ---- keys
 
@@ -65,17 +65,9 @@ added seen after rest n first so_far among more =
     ∙ repeated_alike (seen ++ n ∷ []) (n ∷ seen) rest (λ m. among_last (bytes_eq m) seen n)
     ∙ sym (ap (λ b. if b then Some n else first_repeated (n ∷ seen) rest) among) ∙ so_far
 
--- ---- the names of accepted functions, from a work on
+-- ---- the names of functions, from one on
 
-pub with_name : (all : List Worked) (i : ℕ) (d : Worked) (n : List ℕ) → i < length all → worked_name (get_or all i d) ≡ Some n →
-    names_in (drop i all) ≡ n ∷ names_in (drop (i + 1) all)
-with_name all i d n lt is = at_drop_more names_in all i d lt ∙ ap (λ o. cons_option o (names_in (drop (i + 1) all))) is
-
-pub without_name : (all : List Worked) (i : ℕ) (d : Worked) → i < length all → worked_name (get_or all i d) ≡ None →
-    names_in (drop i all) ≡ names_in (drop (i + 1) all)
-without_name all i d lt is = at_drop_more names_in all i d lt ∙ ap (λ o. cons_option o (names_in (drop (i + 1) all))) is
-
-pub none_repeated : (seen : List (List ℕ)) (all : List Worked) (i : ℕ) → length all ≤ i →
-    first_repeated seen (names_in (drop i all)) ≡ first_repeated [] (names_in all) →
-    ◌≡◌ {A = Option (List ℕ)} None (first_repeated [] (names_in all))
-none_repeated seen all i past so_far = sym (ap (λ l. first_repeated seen (names_in l)) (drop_all i all past)) ∙ so_far
+pub next_name : (all : List Accepted) (i : ℕ) (function : Accepted) → function ≡ get_or all i function → i < length all →
+    names_of (drop i all) ≡ function.name ∷ names_of (drop (i + 1) all)
+next_name all i function is lt =
+    at_drop_more names_of all i function lt ∙ ap (λ (f : Accepted). f.name ∷ names_of (drop (i + 1) all)) (sym is)

@@ -1,23 +1,23 @@
 //! Questions about a function of a module.
 
-ghost use Rattle.std.specs.Prelude.{◌≡◌, ◌≤◌, ◌⊎◌, ◌^◌, ℕ, List, Option, length, position, Some, IfOk, IfErr, OnOk, IfSome, IsSomeAnd};
+ghost use Rattle.std.specs.Prelude.{◌≡◌, ◌≤◌, ◌⊎◌, ◌^◌, ℕ, List, Option, length, Some, IfOk, IfErr, OnOk, IfSome, IsSomeAnd};
 ghost use Rattle.vfa_ir.specs.declared.functions.Function.{Function};
 ghost use Rattle.vfa_opt.specs.Asked.{IsAnswerText, IsTrueAnswer};
 ghost use Rattle.vfa_opt.specs.Module.{Piece, IsModule, IsModuleText, IsPiece, accepted};
 ghost use Rattle.vfa_opt.specs.Refusals.{IsRefusal, IsUnansweredBy};
 ghost use Rattle.vfa_opt.specs.Sound.{IsSoundFor};
-ghost use Rattle.vfa_opt.specs.Works.{IsItemOf, IsPlaced, has_name, item_bytes, item_named};
+ghost use Rattle.vfa_opt.specs.Works.{IsItemOf, IsPlaced, item_bytes, item_named};
 ghost use Rattle.vfa_opt.specs.declared.jobs.Job.TheVariants.{Ask};
 ghost use Rattle.vfa_opt.specs.declared.refusals.Refused.TheVariants.{Memory};
 
 use crate::acceptance::accept;
 use crate::asked::answered;
-use crate::joined::{Text, joined};
+use crate::joined::Text;
+use crate::portions::Accepted;
 use crate::questions::Question;
 use crate::refusals::Refused;
-use crate::work::Worked;
 use crate::writings::Writing;
-use crate::written::{items_of, works};
+use crate::written::worked_out;
 use std::alloc::{AllocError, AllocGlobal, Global};
 use std::thread::Threads;
 use vfa_check::Checked;
@@ -25,32 +25,16 @@ use vfa_lex::tokens;
 use vfa_module::Item;
 use vfa_par::Gate;
 
-/// Whether it is an accepted function of the name.
-fn has_name(worked: &Worked, name: &[u8]) -> bool
-    ensures { result ≡ has_name name.now worked.now }
+/// The item of the first function of the name.
+fn item_named(all: &[Accepted], name: &[u8]) -> Option<Item>
+    ensures { result ≡ item_named name.now all.now }
 {
-    match worked {
-        Worked::Printed { name: own, .. } => name == own.bytes(),
-        _ => false,
+    'functions: for function in all {
+        if name == function.name.bytes() {
+            return Some(function.item);
+        }
     }
-}
-
-/// The first place of an accepted function of the name.
-fn place_named(all: &[Worked], name: &[u8]) -> Option<usize>
-    ensures { result ≡ position (has_name name.now) all.now }
-{
-    all.iter().position(|worked| has_name(worked, name))
-}
-
-/// The item of the first accepted function of the name.
-fn item_named(items: &[Item], all: &[Worked], name: &[u8]) -> Option<Item>
-    ensures { result ≡ item_named name.now items.now all.now }
-{
-    let place = place_named(all, name)?;
-    match items.get(place) {
-        Some(item) => Some(*item),
-        None => None,
-    }
+    None
 }
 
 /// The bytes of an item.
@@ -117,14 +101,11 @@ pub fn asked_out<R: AllocGlobal + Threads + Sync, G: Gate>(
     ensures sound { OnOk result ((pieces : List Piece) × IsModule strict bytes.now pieces × IsSoundFor (Ask question.now) pieces) }
     ensures refused { IfErr result (λ e. (e ≡ Memory) ⊎ IsRefusal (Ask question.now) strict bytes.now e) }
 {
-    let alloc = rt.alloc();
-    let items = items_of(alloc, bytes)?;
-    let all = works(rt, Writing::Nothing, workers, bytes, &items, gate)?;
-    let item = item_named(&items, &all, question.function.bytes());
-    let read = joined(alloc, Writing::Nothing, strict, bytes, all)?;
-    let out = answer_in(alloc, question, bytes, item)?;
+    let whole = worked_out(rt, Writing::Nothing, workers, strict, bytes, gate)?;
+    let item = item_named(&whole.accepted, question.function.bytes());
+    let out = answer_in(rt.alloc(), question, bytes, item)?;
     Ok(Text {
         out,
-        notes: read.notes,
+        notes: whole.notes,
     })
 }

@@ -103,6 +103,39 @@ define i8 @b(i8 %x) { ret i8 %x }
     check_workers(&rt, &["1", "4", "64"], input, want)
 }
 
+/// Numbers of workers whose shares of five items have five, three, two, two, one and one.
+const NUMBERS: [&str; 6] = ["1", "2", "3", "4", "5", "64"];
+
+// Three functions and the line feeds between them are five items. But for one worker, the name stands in two shares.
+#[test]
+fn a_name_is_repeated_across_shares(rt: HostRuntime) -> Result<(), Fail> {
+    let input = b"define i8 @a(i8 %x) { ret i8 %x }
+define i8 @b(i8 %x) { ret i8 %x }
+define i8 @a(i8 %x) { ret i8 %x }";
+    let want = End {
+        status: Status::Refused,
+        out: b"",
+        err: b"refused: DuplicateFunction @a\n",
+    };
+    check_workers(&rt, &NUMBERS, input, want)
+}
+
+#[test]
+fn notes_are_in_text_order_across_shares(rt: HostRuntime) -> Result<(), Fail> {
+    let input = b"define i8 @a(i8 %x) { ret i8 %y }
+define i8 @b(i8 %x) { ret i8 %x1 }
+define i8 @c(i8 %x) { ret i8 %z }";
+    let want = End {
+        status: Status::Done,
+        out: input,
+        err: b"note: @a carried: Unknown %y
+note: @b carried: Unknown %x1
+note: @c carried: Unknown %z
+",
+    };
+    check_workers(&rt, &NUMBERS, input, want)
+}
+
 #[test]
 fn workers_are_given_in_either_form_of_an_option(rt: HostRuntime) -> Result<(), Fail> {
     let done = End {

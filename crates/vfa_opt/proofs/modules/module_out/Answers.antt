@@ -1,6 +1,6 @@
 use Rattle.vfa_opt.specs.Module.{input_of}
 use Rattle.vfa_opt.proofs.EachJob.{text_not_refused}
-use Rattle.vfa_opt.proofs.WorkLists.{sound_each, answers_in, refuses_in}
+use Rattle.vfa_opt.proofs.WrittenModules.{sound_each, answers_in, refuses_in}
 use Rattle.vfa_opt.proofs.modules.module_out.Goals as goal
 
 pub returns-clause-sound : goal.returns-clause-sound

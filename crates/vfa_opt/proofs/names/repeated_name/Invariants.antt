@@ -1,7 +1,7 @@
 use Rattle.std.proofs.Common.{◌≡◌, [], drop}
 use Rattle.vfa_ir.specs.DefinedNames.{first_repeated}
-use Rattle.vfa_opt.specs.Works.{names_in}
+use Rattle.vfa_opt.specs.Works.{names_of}
 use Rattle.vfa_opt.proofs.names.repeated_name.Given as goal
 
-abbrev pub invariant-works : goal.invariant-works
-invariant-works l = first_repeated l.seen (names_in (drop l.worked-index l.all)) ≡ first_repeated [] (names_in l.all)
+abbrev pub invariant-functions : goal.invariant-functions
+invariant-functions l = first_repeated l.seen (names_of (drop l.function-index l.all)) ≡ first_repeated [] (names_of l.all)
