@@ -5,7 +5,7 @@
 
 PROGRAM is the built program (crates/vfa/out/vfa once `rt run` has built it). Each number from FIRST to LAST seeds a
 module of random functions of the profile. None may be carried, and LLVM's `opt -S`, which verifies a module too, has to read the
-module and what vfa printed of it. It is to be of release 22 or later: older ones do not know `samesign`.
+module and what vfa printed of it. It is to be of release 22 or later; LLVM knows all words that vfa prints from release 20 on.
 
 The status is 0 where there is nothing to look at, 1 where there is, and 2 where the words are wrong or no such opt is found.
 """

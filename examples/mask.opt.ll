@@ -1,0 +1,4 @@
+define i8 @f(i8 %x) {
+entry:
+  ret i8 0
+}
